@@ -1,0 +1,5 @@
+pub mod Search
+pub mod Digits
+pub mod Reading
+pub mod Scanning
+pub mod Writing

@@ -1,0 +1,49 @@
+-- Writing bytes over others.
+use mathlib.Core.Path.{_≡_, refl, sym, _∙_, ap}
+use mathlib.Core.Bool.{cond}
+use mathlib.Core.List.{List, [], _∷_, _++_, append-assoc}
+use Prim.Native.Nat.{ℕ, zero, suc, _+_, _-_, _/_, _%_, _^_, _<_, _≤_}
+use native.Mathlib.Numerals.{add-one}
+use native.Mathlib.Omega.{arith}
+use lib.ListN.{length, getD, take, drop, set, take-append-drop}
+use Rattle.std.proofs.shelf.Lists.{take-more, set-at, length-take-le, length-map, length-append, take-at}
+use Rattle.std.proofs.shelf.Tests.{cond-true, cond-false, le-leb, lt-leb}
+use Rattle.layout.specs.Bytes.{byteIn}
+use Rattle.layout.specs.Digits.{digits, digitBytes}
+use Rattle.layout.specs.Slots.{Slot, width, scanSlot, over}
+use Rattle.layout.proofs.Digits.{length-digits}
+use Rattle.layout.proofs.Reading.{scan-part}
+
+pub digitBytes-none : (b v : ℕ) → digitBytes b 0 v ≡ []
+unfolding digits digitBytes
+digitBytes-none b v = refl
+
+pub digitBytes-more : (b i v : ℕ) → digitBytes b (i + 1) v ≡ byteIn b (v / b ^ i % b) ∷ digitBytes b i v
+unfolding digits digitBytes
+digitBytes-more b i v = rw add-one
+
+-- one byte more before those that were written
+pub set-before : (xs ys : List ℕ) (k x : ℕ) → k < length xs → set (take (k + 1) xs ++ ys) k x ≡ take k xs ++ (x ∷ ys)
+set-before xs ys k x lt =
+    ap (λ zs. set (zs ++ ys) k x) (take-more xs k 0 lt) ∙ ap (λ zs. set zs k x) (append-assoc (take k xs) (getD xs k 0 ∷ []) ys)
+    ∙ set-at (take k xs) (getD xs k 0) ys x k (length-take-le k xs (omega arith))
+
+pub length-digitBytes : (b n v : ℕ) → length (digitBytes b n v) ≡ n
+unfolding digitBytes
+length-digitBytes b n v = length-map (digits b n v) (byteIn b) ∙ length-digits b n v
+
+module _ (o : ℕ) (p xs : List ℕ) where
+  pub over-within : o + length p ≤ length xs → over o p xs ≡ take o xs ++ (p ++ drop (o + length p) xs)
+  unfolding over
+  over-within h = cond-true _ _ _ (le-leb _ _ h)
+
+  pub over-past : length xs < o + length p → over o p xs ≡ xs
+  unfolding over
+  over-past h = cond-false _ _ _ (lt-leb _ _ h)
+
+-- a field that was written at the front is read there
+pub scan-over : (s : Slot) (p xs : List ℕ) → length p ≡ width s → width s ≤ length xs → scanSlot s (over 0 p xs) ≡ scanSlot s p
+scan-over s p xs size within =
+    let held : width s ≤ length (p ++ drop (0 + length p) xs) = simp length-append (omega arith) in
+    ap (scanSlot s) (over-within 0 p xs (omega arith)) ∙ scan-part s (p ++ drop (0 + length p) xs) held
+    ∙ ap (scanSlot s) (take-at p (drop (0 + length p) xs) (width s) size)

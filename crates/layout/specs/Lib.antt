@@ -1,0 +1,4 @@
+pub mod Bytes
+pub mod Digits
+pub mod Slots
+pub mod Fields

@@ -1,0 +1,2 @@
+// What a field of a line is, which bytes spell which value, and the laws of both.
+pub mod fault;
