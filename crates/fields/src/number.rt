@@ -4,24 +4,23 @@ ghost use Rattle.std.specs.Results.{Cases};
 ghost use Rattle.std.specs.declared.result.Result.the-variants.{Ok, Err};
 ghost use Rattle.layout.specs.Slots.{readSlot, checkSlot, scanSlot, spell, over};
 ghost use Rattle.fields.specs.Kinds.{numberSlot};
-use crate::base::Number;
+use crate::numeral::Number;
 use crate::put::put_digits;
 use crate::rest::past;
 use crate::rest::spot_at;
 use crate::rest::spot_of;
 use crate::table::look;
 use layout::fault::FieldFault;
-use layout::fault::Start;
 
 // The number at the front of the line, and what is left of the line.
-pub fn read_number(line: &[u8], at: Start, field: Number) -> Result<(u64, &[u8]), FieldFault>
-    ensures { λ r. ⌜ Cases r (λ p. readSlot (numberSlot field) at (now (line .entry)) ≡ Ok (p .0, now (p .1))) (λ e. readSlot (numberSlot field) at (now (line .entry)) ≡ Err e) ⌝ }
+pub fn read_number(line: &[u8], letter: u8, offset: u8, field: Number) -> Result<(u64, &[u8]), FieldFault>
+    ensures { λ r. ⌜ Cases r (λ p. readSlot (numberSlot field) letter offset (now (line .entry)) ≡ Ok (p .0, now (p .1))) (λ e. readSlot (numberSlot field) letter offset (now (line .entry)) ≡ Err e) ⌝ }
 {
     match scan(line, field) {
-        Err(index) => Err(FieldFault::Byte(spot_at(at, index))),
+        Err(index) => Err(FieldFault::Byte(spot_at(letter, offset, index))),
         Ok(value) => {
             if value < field.low || field.high < value {
-                return Err(FieldFault::Range(spot_of(at)));
+                return Err(FieldFault::Range(spot_of(letter, offset)));
             }
             Ok((value, past(line, field.count)))
         }
@@ -29,11 +28,11 @@ pub fn read_number(line: &[u8], at: Start, field: Number) -> Result<(u64, &[u8])
 }
 
 // Whether some line gives the number in that field.
-pub fn check_number(value: u64, at: Start, field: Number) -> Result<(), FieldFault>
-    ensures { λ r. ⌜ r ≡ checkSlot (numberSlot field) at value ⌝ }
+pub fn check_number(value: u64, letter: u8, offset: u8, field: Number) -> Result<(), FieldFault>
+    ensures { λ r. ⌜ r ≡ checkSlot (numberSlot field) letter offset value ⌝ }
 {
     if value < field.low || field.high < value {
-        return Err(FieldFault::Range(spot_of(at)));
+        return Err(FieldFault::Range(spot_of(letter, offset)));
     }
     Ok(())
 }

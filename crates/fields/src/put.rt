@@ -1,6 +1,6 @@
 // Writing digits.
 ghost use mathlib.Core.Path.{_≡_};
-ghost use mathlib.Core.List.{_++_};
+ghost use mathlib.Core.List.{[], _∷_, _++_};
 ghost use Prim.Native.Nat.{_+_, _<_, _≤_};
 ghost use lib.ListN.{length, take, drop};
 ghost use Rattle.layout.specs.Bytes.{byteIn};
@@ -40,5 +40,15 @@ fn byte_in(base: u64, digit: u64) -> u8
         b'0' + digit as u8
     } else {
         b'A' - 10 + digit as u8
+    }
+}
+
+// Writes a byte over the one at the offset; where there is none, nothing.
+pub fn put_byte(room: &mut [u8], offset: u8, byte: u8)
+    ensures { λ _. ⌜ now (room .exit) ≡ over offset (byte ∷ []) (now (room .entry)) ⌝ }
+{
+    let at = offset as usize;
+    if at < room.len() {
+        room[at] = byte;
     }
 }

@@ -4,7 +4,6 @@ ghost use Prim.Native.Nat.{_+_, _<_};
 ghost use lib.ListN.{drop};
 ghost use Rattle.layout.specs.Slots.{spot, origin};
 use layout::fault::Spot;
-use layout::fault::Start;
 
 // What is left of the line past so many bytes.
 pub fn past(line: &[u8], count: u8) -> &[u8]
@@ -18,22 +17,22 @@ pub fn past(line: &[u8], count: u8) -> &[u8]
     }
 }
 
-// The place of the byte `index` places into the field that starts there.
-pub fn spot_at(start: Start, index: u8) -> Spot
-    ensures { λ r. ⌜ r ≡ spot start index ⌝ }
+// The place of the byte `index` places into the field at the offset.
+pub fn spot_at(letter: u8, offset: u8, index: u8) -> Spot
+    ensures { λ r. ⌜ r ≡ spot letter offset index ⌝ }
 {
     Spot {
-        letter: start.letter,
-        offset: start.offset as usize + index as usize,
+        letter,
+        offset: offset as usize + index as usize,
     }
 }
 
-// The place where the field starts.
-pub fn spot_of(start: Start) -> Spot
-    ensures { λ r. ⌜ r ≡ origin start ⌝ }
+// The place of the field's first byte.
+pub fn spot_of(letter: u8, offset: u8) -> Spot
+    ensures { λ r. ⌜ r ≡ origin letter offset ⌝ }
 {
     Spot {
-        letter: start.letter,
-        offset: start.offset as usize,
+        letter,
+        offset: offset as usize,
     }
 }

@@ -7,36 +7,36 @@ ghost use lib.ListN.{replicate};
 ghost use Rattle.std.specs.Results.{Cases};
 ghost use Rattle.std.specs.declared.result.Result.the-variants.{Ok, Err};
 ghost use Rattle.std.specs.shelf.Digits.{numberAfter};
+ghost use Rattle.layout.specs.Bytes.{isOf};
 ghost use Rattle.layout.specs.Slots.{readSlot, checkSlot, scanSlot, spell, givable, over};
-ghost use Rattle.fields.specs.Kinds.{textSlot, classOf};
-use crate::class::Class;
-use crate::class::Text;
+ghost use Rattle.fields.specs.Kinds.{textSlot};
+use crate::padded::Text;
 use crate::put::put_digits;
 use crate::rest::past;
 use crate::rest::spot_at;
 use crate::rest::spot_of;
 use crate::table::look;
+use layout::class::Class;
 use layout::fault::FieldFault;
-use layout::fault::Start;
 
 // The text's number at the front of the line, and what is left of the line.
-pub fn read_text(line: &[u8], at: Start, field: Text) -> Result<(u64, &[u8]), FieldFault>
-    ensures { λ r. ⌜ Cases r (λ p. readSlot (textSlot field) at (now (line .entry)) ≡ Ok (p .0, now (p .1))) (λ e. readSlot (textSlot field) at (now (line .entry)) ≡ Err e) ⌝ }
+pub fn read_text(line: &[u8], letter: u8, offset: u8, field: Text) -> Result<(u64, &[u8]), FieldFault>
+    ensures { λ r. ⌜ Cases r (λ p. readSlot (textSlot field) letter offset (now (line .entry)) ≡ Ok (p .0, now (p .1))) (λ e. readSlot (textSlot field) letter offset (now (line .entry)) ≡ Err e) ⌝ }
 {
     match scan(line, field) {
-        Err(index) => Err(FieldFault::Byte(spot_at(at, index))),
+        Err(index) => Err(FieldFault::Byte(spot_at(letter, offset, index))),
         Ok(value) => Ok((value, past(line, field.width))),
     }
 }
 
 // Whether some line gives the text of that number in that field.
-pub fn check_text(value: u64, at: Start, field: Text) -> Result<(), FieldFault>
-    ensures { λ r. ⌜ r ≡ checkSlot (textSlot field) at value ⌝ }
+pub fn check_text(value: u64, letter: u8, offset: u8, field: Text) -> Result<(), FieldFault>
+    ensures { λ r. ⌜ r ≡ checkSlot (textSlot field) letter offset value ⌝ }
 {
     if comes_back(value, field) {
         Ok(())
     } else {
-        Err(FieldFault::Range(spot_of(at)))
+        Err(FieldFault::Range(spot_of(letter, offset)))
     }
 }
 
@@ -69,7 +69,7 @@ fn scan(line: &[u8], field: Text) -> Result<u64, u8>
 
 // Whether the byte may stand at that place, after a space or not.
 fn fits(field: Text, byte: u8, place: u8, spaced: bool) -> bool
-    ensures { λ r. ⌜ r ≡ cond (eqb byte 32) (leb (field .least) place) (classOf (field .class) byte && not spaced) ⌝ }
+    ensures { λ r. ⌜ r ≡ cond (eqb byte 32) (leb (field .least) place) (isOf (field .class) byte && not spaced) ⌝ }
 {
     if byte == b' ' {
         field.least <= place
@@ -79,7 +79,7 @@ fn fits(field: Text, byte: u8, place: u8, spaced: bool) -> bool
 }
 
 fn in_class(class: Class, byte: u8) -> bool
-    ensures { λ r. ⌜ r ≡ classOf class byte ⌝ }
+    ensures { λ r. ⌜ r ≡ isOf class byte ⌝ }
 {
     match class {
         Class::Graphic => look(byte).graphic,

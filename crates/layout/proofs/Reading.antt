@@ -1,9 +1,11 @@
 -- What a walk over a field finds, by what its bytes are.
 use mathlib.Core.Path.{_≡_, refl, _∙_, ap, sym}
-use mathlib.Core.Bool.{true, false}
-use mathlib.Core.List.{List}
+use mathlib.Core.Bool.{true, false, cond}
+use mathlib.Core.Logic.{⊎-elim}
+use mathlib.Core.List.{List, [], _∷_}
 use Prim.Native.Nat.{ℕ, _<_, _≤_}
 use native.Mathlib.Omega.{arith}
+use lib.Dec.{eqb}
 use lib.ListN.{length, getD, take}
 use Rattle.std.specs.Options.{Cases}
 use Rattle.std.specs.declared.option.Option.{Option}
@@ -11,6 +13,7 @@ use Rattle.std.specs.declared.option.Option.the-variants.{Some, None}
 use Rattle.std.specs.declared.result.Result.the-variants.{Ok, Err}
 use Rattle.layout.specs.Slots.{Slot, width, holds, valueOf, walked, scanSlot, choice, isOneOf, Passes, Stops}
 use Rattle.std.proofs.shelf.Lists.{getD-take, take-take}
+use Rattle.std.proofs.shelf.Tests.{cases-bool, eqb-true, or-left, or-from}
 use Rattle.layout.proofs.Scanning.{holds-part, passes-none, passes-step, stops-here, stops-short}
 use Rattle.layout.proofs.Search.{is-none, is-some, same-failing}
 
@@ -51,3 +54,11 @@ module _ (letters : List ℕ) (xs : List ℕ) where
   pub scan-letter : {X : Type 0} (letter : X → ℕ) → ((x : X) → isOneOf letters (letter x) ≡ true) → 0 < length xs → (o : Option X) → Cases o (isOneOf letters (getD xs 0 0) ≡ false) (λ x. letter x ≡ getD xs 0 0) → Cases o (scanSlot (choice letters) xs ≡ Err 0) (λ x. scanSlot (choice letters) xs ≡ Ok (letter x))
   scan-letter letter member lt None h = scan-other h
   scan-letter letter member lt (Some x) h = scan-member lt (rw (← h) (member x)) ∙ ap Ok (sym h)
+
+-- of one letter alone
+pub scan-mark : (letter : ℕ) (xs : List ℕ) → 0 < length xs → scanSlot (choice (letter ∷ [])) xs ≡ cond (eqb (getD xs 0 0) letter) (Ok letter) (Err 0)
+scan-mark letter xs lt =
+    ⊎-elim
+    (λ e. scan-member (letter ∷ []) xs lt (or-left _ _ e) ∙ rw e (ap Ok (eqb-true _ _ e)))
+    (λ e. scan-other (letter ∷ []) xs (or-from _ _ e refl) ∙ rw e)
+    (cases-bool (eqb (getD xs 0 0) letter))

@@ -2,6 +2,8 @@
 use mathlib.Core.Bool.{Bool, cond, _&&_}
 use Prim.Native.Nat.{ℕ, _+_, _-_}
 use lib.Dec.{leb, ltb}
+use Rattle.layout.specs.declared.class.Class.{Class}
+use Rattle.layout.specs.declared.class.Class.the-variants.{Graphic, Letter}
 
 -- 0 to 9
 abbrev pub isDigit : ℕ → Bool
@@ -14,6 +16,10 @@ isLetter x = leb 65 x && leb x 90
 -- printable, and not a space
 abbrev pub isGraphic : ℕ → Bool
 isGraphic x = leb 33 x && leb x 126
+
+abbrev pub isOf : Class → ℕ → Bool
+isOf Graphic x = isGraphic x
+isOf Letter x = isLetter x
 
 -- 0 to 9 are worth 0 to 9, A to Z 10 to 35; any other byte has the worth 36, which is no digit's
 unfoldable pub worthOf : ℕ → ℕ

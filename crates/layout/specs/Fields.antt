@@ -5,7 +5,6 @@ use Prim.Native.Nat.{ℕ, _+_}
 use lib.ListN.{take, drop}
 use Rattle.std.specs.declared.result.Result.{Result}
 use Rattle.std.specs.declared.result.Result.the-variants.{Ok, Err}
-use Rattle.layout.specs.declared.fault.Start.{Start}
 use Rattle.layout.specs.declared.fault.FieldFault.{FieldFault}
 use Rattle.layout.specs.Slots.{Slot, width, Spells, readSlot, checkSlot, spell, over}
 
@@ -32,9 +31,6 @@ abbrev pub Tiled : ℕ → List Field → ℕ → Type 0
 Tiled o [] end = o ≡ end
 Tiled o (f ∷ fs) end = (f .offset ≡ o) × Tiled (o + width (f .slot)) fs end
 
-abbrev pub start : ℕ → ℕ → Start
-start letter offset = record { letter = letter; offset = offset }
-
 -- a value before the others, where those were read
 abbrev pub before : ℕ → Result (List ℕ) FieldFault → Result (List ℕ) FieldFault
 before v (Ok vs) = Ok (v ∷ vs)
@@ -47,7 +43,7 @@ thenRead (Err e) go = Err e
 
 abbrev pub readFields : ℕ → List Field → List ℕ → Result (List ℕ) FieldFault
 readFields letter [] xs = Ok []
-readFields letter (f ∷ fs) xs = thenRead (readSlot (f .slot) (start letter (f .offset)) xs) (readFields letter fs)
+readFields letter (f ∷ fs) xs = thenRead (readSlot (f .slot) letter (f .offset) xs) (readFields letter fs)
 
 abbrev pub thenCheck : Result (Unit {0}) FieldFault → Result (Unit {0}) FieldFault → Result (Unit {0}) FieldFault
 thenCheck (Ok u) go = go
@@ -56,7 +52,7 @@ thenCheck (Err e) go = Err e
 abbrev pub checkFields : ℕ → List Field → List ℕ → Result (Unit {0}) FieldFault
 checkFields letter [] vs = Ok tt
 checkFields letter (f ∷ fs) [] = Ok tt
-checkFields letter (f ∷ fs) (v ∷ vs) = thenCheck (checkSlot (f .slot) (start letter (f .offset)) v) (checkFields letter fs vs)
+checkFields letter (f ∷ fs) (v ∷ vs) = thenCheck (checkSlot (f .slot) letter (f .offset) v) (checkFields letter fs vs)
 
 -- the fields' bytes one after the other
 abbrev pub lineOf : List Field → List ℕ → List ℕ

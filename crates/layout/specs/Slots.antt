@@ -11,11 +11,11 @@ use Rattle.std.specs.declared.option.Option.{Option}
 use Rattle.std.specs.declared.option.Option.the-variants.{Some, None}
 use Rattle.std.specs.declared.result.Result.{Result}
 use Rattle.std.specs.declared.result.Result.the-variants.{Ok, Err}
-use Rattle.layout.specs.declared.fault.Start.{Start}
+use Rattle.layout.specs.declared.class.Class.{Class}
 use Rattle.layout.specs.declared.fault.Spot.{Spot}
 use Rattle.layout.specs.declared.fault.FieldFault.{FieldFault}
 use Rattle.layout.specs.declared.fault.FieldFault.the-variants.{Byte, Range}
-use Rattle.layout.specs.Bytes.{worthOf}
+use Rattle.layout.specs.Bytes.{worthOf, isOf}
 use Rattle.layout.specs.Digits.{digitBytes}
 
 -- What a field may hold.
@@ -23,7 +23,7 @@ pub data Slot : Type 0 where
   -- that many digits of the base, whose number lies from low to high
   number : (base count low high : ℕ) → Slot
   -- at least so many bytes of a class and then only spaces; its number is that of its bytes, filled up with spaces to `whole` bytes, in base 256
-  text : (class : ℕ → Bool) (least width whole : ℕ) → Slot
+  text : (class : Class) (least width whole : ℕ) → Slot
   -- one of these bytes
   choice : (letters : List ℕ) → Slot
 
@@ -42,11 +42,11 @@ pub record SpellsNumber (base count low high : ℕ) (p : List ℕ) (v : ℕ) : T
   pub least : low ≤ v
   pub most : v ≤ high
 
-pub record SpellsText (class : ℕ → Bool) (least w whole : ℕ) (p : List ℕ) (v : ℕ) : Type 0 where
+pub record SpellsText (class : Class) (least w whole : ℕ) (p : List ℕ) (v : ℕ) : Type 0 where
   pub name : List ℕ
   pub spaces : ℕ
   pub split : p ≡ name ++ replicate spaces 32
-  pub inside : All (λ x. class x ≡ true) name
+  pub inside : All (λ x. isOf class x ≡ true) name
   pub enough : least ≤ length name
   pub size : length p ≡ w
   pub value : numberOf 256 (p ++ replicate (whole - w) 32) ≡ v
@@ -74,7 +74,7 @@ isOneOf (l ∷ ls) x = eqb x l || isOneOf ls x
 -- the byte at place j of p keeps the field's rule, where all bytes before it do
 abbrev pub keeps : Slot → List ℕ → ℕ → Bool
 keeps (number base count low high) p j = ltb (worthOf (getD p j 0)) base
-keeps (text class least w whole) p j = cond (eqb (getD p j 0) 32) (leb least j) (class (getD p j 0) && not (afterSpace p j))
+keeps (text class least w whole) p j = cond (eqb (getD p j 0) 32) (leb least j) (isOf class (getD p j 0) && not (afterSpace p j))
 keeps (choice letters) p j = isOneOf letters (getD p j 0)
 
 -- an earlier place, or else n where its test failed
@@ -118,21 +118,22 @@ inRange (number base count low high) v = leb low v && leb v high
 inRange (text class least w whole) v = true
 inRange (choice letters) v = true
 
--- the place of a field's first byte, and of the byte i places on
-abbrev pub origin : Start → Spot
-origin s = record { letter = s .letter; offset = s .offset }
+-- the byte i places into the field at that offset
+abbrev pub spot : ℕ → ℕ → ℕ → Spot
+spot letter offset i = record { letter = letter; offset = offset + i }
 
-abbrev pub spot : Start → ℕ → Spot
-spot s i = record { letter = s .letter; offset = s .offset + i }
+-- the field's first byte
+abbrev pub origin : ℕ → ℕ → Spot
+origin letter offset = record { letter = letter; offset = offset }
 
 -- then the range: the field's number with what is left of xs, or the fault
-abbrev pub ranged : Slot → Start → List ℕ → Result ℕ ℕ → Result (ℕ × List ℕ) FieldFault
-ranged s at xs (Ok v) = cond (inRange s v) (Ok (v, drop (width s) xs)) (Err (Range (origin at)))
-ranged s at xs (Err i) = Err (Byte (spot at i))
+abbrev pub ranged : Slot → ℕ → ℕ → List ℕ → Result ℕ ℕ → Result (ℕ × List ℕ) FieldFault
+ranged s letter offset xs (Ok v) = cond (inRange s v) (Ok (v, drop (width s) xs)) (Err (Range (origin letter offset)))
+ranged s letter offset xs (Err i) = Err (Byte (spot letter offset i))
 
--- the field at the front of xs, which starts there in its line, and what is left of xs
-abbrev pub readSlot : Slot → Start → List ℕ → Result (ℕ × List ℕ) FieldFault
-readSlot s at xs = ranged s at xs (scanSlot s xs)
+-- the field at the front of xs, which has that offset in a line of that letter, and what is left of xs
+abbrev pub readSlot : Slot → ℕ → ℕ → List ℕ → Result (ℕ × List ℕ) FieldFault
+readSlot s letter offset xs = ranged s letter offset xs (scanSlot s xs)
 
 -- Writing.
 
@@ -153,8 +154,8 @@ givable (number base count low high) v = leb low v && leb v high
 givable (text class least w whole) v = comesBack v (scanSlot (text class least w whole) (spell (text class least w whole) v))
 givable (choice letters) v = isOneOf letters v
 
-abbrev pub checkSlot : Slot → Start → ℕ → Result (Unit {0}) FieldFault
-checkSlot s at v = cond (givable s v) (Ok tt) (Err (Range (origin at)))
+abbrev pub checkSlot : Slot → ℕ → ℕ → ℕ → Result (Unit {0}) FieldFault
+checkSlot s letter offset v = cond (givable s v) (Ok tt) (Err (Range (origin letter offset)))
 
 -- the bytes xs with p written over them from o on; p that does not fit changes nothing
 unfoldable pub over : ℕ → List ℕ → List ℕ → List ℕ

@@ -1,10 +1,3 @@
-// Where a field starts: the letter of its message, and the offset from the line's first byte.
-#[derive(Clone, Copy, PartialEq, Eq, Debug)]
-pub struct Start {
-    pub letter: u8,
-    pub offset: u8,
-}
-
 // A place in a line of the message with that letter.
 #[derive(Clone, Copy, PartialEq, Eq, Debug)]
 pub struct Spot {

@@ -12,4 +12,4 @@ returns-then-is-empty g c = scan-empty (g .L·Lettered .letters) (c .args .line 
 pub returns : need.returns
 returns g c =
     let some : length (c .args .line .now) ≡ 0 → ⊥ = false-eqb _ 0 (c .if-is-empty .ensures tt) in
-    scan-letter (g .L·Lettered .letters) (c .args .line .now) (g .L·Lettered .letter) (g .L·Lettered·met .member) (omega arith) (c .of-byte .result) (c .of-byte .ensures)
+    scan-letter (g .L·Lettered .letters) (c .args .line .now) (g .L·Lettered .written) (g .L·Lettered·met .member) (omega arith) (c .of-byte .result) (c .of-byte .ensures)

@@ -7,7 +7,7 @@ use Rattle.std.specs.declared.result.Result.{Result}
 use Rattle.layout.specs.Digits.{digitBytes}
 use Rattle.layout.specs.Slots.{over, scanSlot, spell, comesBack}
 use Rattle.layout.proofs.Writing.{length-digitBytes, scan-over}
-use Rattle.fields.specs.declared.class.Text.{Text}
+use Rattle.fields.specs.declared.padded.Text.{Text}
 use Rattle.fields.specs.Kinds.{textSlot}
 use Rattle.fields.proofs.text.comes_back.Needs as need
 

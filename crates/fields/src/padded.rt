@@ -1,14 +1,7 @@
 // What a padded field is.
 ghost use Prim.Native.Nat.{_≤_};
 
-// The bytes of which a text is made.
-#[derive(Clone, Copy)]
-pub enum Class {
-    // Printable, and not a space.
-    Graphic,
-    // A to Z.
-    Letter,
-}
+use layout::class::Class;
 
 // At least so many bytes of a class and then only spaces, `width` bytes in all. Its number is that of its bytes, filled up
 // with spaces to `whole` bytes, in base 256, the first byte highest. So two widths of one text have one number.

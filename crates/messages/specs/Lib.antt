@@ -1,0 +1,3 @@
+pub mod Codes
+pub mod Layouts
+pub mod Values

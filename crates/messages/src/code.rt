@@ -1,0 +1,111 @@
+// Values that a line has as one letter.
+ghost use mathlib.Core.List.{[], _∷_};
+ghost use Rattle.messages.specs.Codes.{sideLetter, tradeSideLetter, displayLetter, customerLetter};
+use fields::letter::Lettered;
+
+#[derive(Clone, Copy)]
+pub enum Side {
+    Buy,
+    Sell,
+}
+
+// A trade's line says buy, whatever the side of the order that rested.
+#[derive(Clone, Copy)]
+pub enum TradeSide {
+    Buy,
+}
+
+// Whether the order is displayed.
+#[derive(Clone, Copy)]
+pub enum Display {
+    Shown,
+    Hidden,
+}
+
+#[derive(Clone, Copy)]
+pub enum Customer {
+    Retail,
+    Blank,
+}
+
+pub impl Lettered for Side as SideLettered {
+    ghost letters = { 66 ∷ 83 ∷ [] };
+
+    ghost written = { sideLetter };
+
+    fn of_byte(byte: u8) -> Option<Side> {
+        match byte {
+            b'B' => Some(Side::Buy),
+            b'S' => Some(Side::Sell),
+            _ => None,
+        }
+    }
+
+    fn byte(&self) -> u8 {
+        match self {
+            Side::Buy => b'B',
+            Side::Sell => b'S',
+        }
+    }
+}
+
+pub impl Lettered for TradeSide as TradeSideLettered {
+    ghost letters = { 66 ∷ [] };
+
+    ghost written = { tradeSideLetter };
+
+    fn of_byte(byte: u8) -> Option<TradeSide> {
+        match byte {
+            b'B' => Some(TradeSide::Buy),
+            _ => None,
+        }
+    }
+
+    fn byte(&self) -> u8 {
+        match self {
+            TradeSide::Buy => b'B',
+        }
+    }
+}
+
+pub impl Lettered for Display as DisplayLettered {
+    ghost letters = { 89 ∷ 78 ∷ [] };
+
+    ghost written = { displayLetter };
+
+    fn of_byte(byte: u8) -> Option<Display> {
+        match byte {
+            b'Y' => Some(Display::Shown),
+            b'N' => Some(Display::Hidden),
+            _ => None,
+        }
+    }
+
+    fn byte(&self) -> u8 {
+        match self {
+            Display::Shown => b'Y',
+            Display::Hidden => b'N',
+        }
+    }
+}
+
+pub impl Lettered for Customer as CustomerLettered {
+    ghost letters = { 82 ∷ 32 ∷ [] };
+
+    ghost written = { customerLetter };
+
+    fn of_byte(byte: u8) -> Option<Customer> {
+        match byte {
+            b'R' => Some(Customer::Retail),
+            b' ' => Some(Customer::Blank),
+            _ => None,
+        }
+    }
+
+    fn byte(&self) -> u8 {
+        match self {
+            Customer::Retail => b'R',
+            Customer::Blank => b' ',
+        }
+    }
+}

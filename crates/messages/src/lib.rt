@@ -1,0 +1,6 @@
+// What the feed's messages are: their kinds, what each says, and how a line lays it out.
+pub mod code;
+pub mod fault;
+pub mod message;
+pub mod record;
+pub mod types;
