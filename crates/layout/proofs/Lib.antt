@@ -3,3 +3,4 @@ pub mod Digits
 pub mod Reading
 pub mod Scanning
 pub mod Writing
+pub mod Steps

@@ -1,9 +1,10 @@
-// The kinds, each with its letter, its length and its record.
+// The kinds of messages, each with its letter, its length and its record behind one interface.
 pub mod add;
 pub mod add_long;
 pub mod cancel;
 pub mod clear;
 pub mod executed;
+pub mod kind;
 pub mod trade;
 pub mod trade_break;
 pub mod trade_long;
