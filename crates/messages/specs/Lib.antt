@@ -1,3 +1,5 @@
 pub mod Codes
+pub mod Faults
 pub mod Layouts
+pub mod Lines
 pub mod Values

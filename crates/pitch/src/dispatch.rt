@@ -1,0 +1,127 @@
+// From a letter to its kind, and from a kind to what it does.
+ghost use mathlib.Core.Path.{_≡_};
+ghost use Rattle.std.specs.Results.{Cases};
+ghost use Rattle.std.specs.declared.result.Result.the-variants.{Ok, Err};
+ghost use Rattle.layout.specs.Fields.{putFields};
+ghost use Rattle.messages.specs.Layouts.{layoutOf, lengthOf};
+ghost use Rattle.messages.specs.Lines.{types, typeAmong, readAs, told, checked};
+ghost use Rattle.messages.specs.Values.{typeOf, valuesOf};
+use kinds::add::AddShort;
+use kinds::add::AddShortKind;
+use kinds::add_long::AddLong;
+use kinds::add_long::AddLongKind;
+use kinds::cancel::OrderCancel;
+use kinds::cancel::OrderCancelKind;
+use kinds::clear::SymbolClear;
+use kinds::clear::SymbolClearKind;
+use kinds::executed::OrderExecuted;
+use kinds::executed::OrderExecutedKind;
+use kinds::kind::Kind;
+use kinds::trade::TradeShort;
+use kinds::trade::TradeShortKind;
+use kinds::trade_break::TradeBreak;
+use kinds::trade_break::TradeBreakKind;
+use kinds::trade_long::TradeLong;
+use kinds::trade_long::TradeLongKind;
+use layout::fault::FieldFault;
+use messages::fault::FieldMessageFault;
+use messages::fault::MessageFault;
+use messages::message::Message;
+use messages::types::MessageType;
+
+// The kind of that letter.
+pub fn type_of(letter: u8) -> Option<MessageType>
+    ensures { λ r. ⌜ r ≡ typeAmong types letter ⌝ }
+{
+    match letter {
+        b's' => Some(MessageType::SymbolClear),
+        b'A' => Some(MessageType::AddShort),
+        b'd' => Some(MessageType::AddLong),
+        b'E' => Some(MessageType::OrderExecuted),
+        b'X' => Some(MessageType::OrderCancel),
+        b'P' => Some(MessageType::TradeShort),
+        b'r' => Some(MessageType::TradeLong),
+        b'B' => Some(MessageType::TradeBreak),
+        _ => None,
+    }
+}
+
+// How long its lines are.
+pub fn length_of(kind: MessageType) -> usize
+    ensures { λ r. ⌜ r ≡ lengthOf kind ⌝ }
+{
+    match kind {
+        MessageType::SymbolClear => SymbolClear::LENGTH,
+        MessageType::AddShort => AddShort::LENGTH,
+        MessageType::AddLong => AddLong::LENGTH,
+        MessageType::OrderExecuted => OrderExecuted::LENGTH,
+        MessageType::OrderCancel => OrderCancel::LENGTH,
+        MessageType::TradeShort => TradeShort::LENGTH,
+        MessageType::TradeLong => TradeLong::LENGTH,
+        MessageType::TradeBreak => TradeBreak::LENGTH,
+    }
+}
+
+// The message of that kind in the line.
+pub fn read_as(kind: MessageType, line: &[u8]) -> Result<Message, MessageFault>
+    ensures { λ r. ⌜ Cases r (λ m. readAs kind (now (line .entry)) ≡ Ok (told m)) (λ e. readAs kind (now (line .entry)) ≡ Err e) ⌝ }
+{
+    Ok(match kind {
+        MessageType::SymbolClear => Message::SymbolClear(SymbolClear::read(line)?),
+        MessageType::AddShort => Message::AddShort(AddShort::read(line)?),
+        MessageType::AddLong => Message::AddLong(AddLong::read(line)?),
+        MessageType::OrderExecuted => Message::OrderExecuted(OrderExecuted::read(line)?),
+        MessageType::OrderCancel => Message::OrderCancel(OrderCancel::read(line)?),
+        MessageType::TradeShort => Message::TradeShort(TradeShort::read(line)?),
+        MessageType::TradeLong => Message::TradeLong(TradeLong::read(line)?),
+        MessageType::TradeBreak => Message::TradeBreak(TradeBreak::read(line)?),
+    })
+}
+
+// The message's kind.
+pub fn kind_of(message: &Message) -> MessageType
+    ensures { λ r. ⌜ r ≡ typeOf (now (message .entry)) ⌝ }
+{
+    match message {
+        Message::SymbolClear(_) => MessageType::SymbolClear,
+        Message::AddShort(_) => MessageType::AddShort,
+        Message::AddLong(_) => MessageType::AddLong,
+        Message::OrderExecuted(_) => MessageType::OrderExecuted,
+        Message::OrderCancel(_) => MessageType::OrderCancel,
+        Message::TradeShort(_) => MessageType::TradeShort,
+        Message::TradeLong(_) => MessageType::TradeLong,
+        Message::TradeBreak(_) => MessageType::TradeBreak,
+    }
+}
+
+// The message's first field that no line could give, if there is one.
+pub fn check(message: &Message) -> Result<(), FieldFault>
+    ensures { λ r. ⌜ r ≡ checked (now (message .entry)) ⌝ }
+{
+    match message {
+        Message::SymbolClear(clear) => SymbolClear::check(clear),
+        Message::AddShort(add) => AddShort::check(add),
+        Message::AddLong(add) => AddLong::check(add),
+        Message::OrderExecuted(executed) => OrderExecuted::check(executed),
+        Message::OrderCancel(cancel) => OrderCancel::check(cancel),
+        Message::TradeShort(trade) => TradeShort::check(trade),
+        Message::TradeLong(trade) => TradeLong::check(trade),
+        Message::TradeBreak(broken) => TradeBreak::check(broken),
+    }
+}
+
+// Writes each field of the message over the bytes at its offset.
+pub fn put(message: &Message, room: &mut [u8])
+    ensures { λ _. ⌜ now (room .exit) ≡ putFields (layoutOf (typeOf (now (message .entry)))) (valuesOf (now (message .entry))) (now (room .entry)) ⌝ }
+{
+    match message {
+        Message::SymbolClear(clear) => SymbolClear::put(clear, room),
+        Message::AddShort(add) => AddShort::put(add, room),
+        Message::AddLong(add) => AddLong::put(add, room),
+        Message::OrderExecuted(executed) => OrderExecuted::put(executed, room),
+        Message::OrderCancel(cancel) => OrderCancel::put(cancel, room),
+        Message::TradeShort(trade) => TradeShort::put(trade, room),
+        Message::TradeLong(trade) => TradeLong::put(trade, room),
+        Message::TradeBreak(broken) => TradeBreak::put(broken, room),
+    }
+}
