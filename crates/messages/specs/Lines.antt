@@ -37,8 +37,11 @@ tagged t (Ok vs) = Ok (t, vs)
 tagged t (Err e) = Err (Field e)
 
 -- the fields of a line of that kind
+unfoldable pub readRow : MessageType → List ℕ → Result (List ℕ) FieldFault
+readRow t xs = readFields (letterOf t) (layoutOf t) xs
+
 abbrev pub readAs : MessageType → List ℕ → Result (MessageType × List ℕ) MessageFault
-readAs t xs = tagged t (readFields (letterOf t) (layoutOf t) xs)
+readAs t xs = tagged t (readRow t xs)
 
 abbrev pub readKind : List ℕ → Option MessageType → Result (MessageType × List ℕ) MessageFault
 readKind xs None = Err (Unknown (getD xs 8 0))

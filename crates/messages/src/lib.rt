@@ -2,5 +2,6 @@
 pub mod code;
 pub mod fault;
 pub mod message;
+pub mod number;
 pub mod record;
 pub mod types;

@@ -4,7 +4,7 @@ ghost use Rattle.std.specs.Results.{Cases};
 ghost use Rattle.std.specs.declared.result.Result.the-variants.{Ok, Err};
 ghost use Rattle.layout.specs.Fields.{putFields};
 ghost use Rattle.messages.specs.Layouts.{layoutOf, lengthOf};
-ghost use Rattle.messages.specs.Lines.{types, typeAmong, readAs, told, checked};
+ghost use Rattle.messages.specs.Lines.{types, typeAmong, readRow, readAs, told, checked};
 ghost use Rattle.messages.specs.Values.{typeOf, valuesOf};
 use kinds::add::AddShort;
 use kinds::add::AddShortKind;
@@ -67,15 +67,22 @@ pub fn read_as(kind: MessageType, line: &[u8]) -> Result<Message, MessageFault>
     ensures { λ r. ⌜ Cases r (λ m. readAs kind (now (line .entry)) ≡ Ok (told m)) (λ e. readAs kind (now (line .entry)) ≡ Err e) ⌝ }
 {
     Ok(match kind {
-        MessageType::SymbolClear => Message::SymbolClear(SymbolClear::read(line)?),
-        MessageType::AddShort => Message::AddShort(AddShort::read(line)?),
-        MessageType::AddLong => Message::AddLong(AddLong::read(line)?),
-        MessageType::OrderExecuted => Message::OrderExecuted(OrderExecuted::read(line)?),
-        MessageType::OrderCancel => Message::OrderCancel(OrderCancel::read(line)?),
-        MessageType::TradeShort => Message::TradeShort(TradeShort::read(line)?),
-        MessageType::TradeLong => Message::TradeLong(TradeLong::read(line)?),
-        MessageType::TradeBreak => Message::TradeBreak(TradeBreak::read(line)?),
+        MessageType::SymbolClear => Message::SymbolClear(read_kind::<SymbolClear>(line)?),
+        MessageType::AddShort => Message::AddShort(read_kind::<AddShort>(line)?),
+        MessageType::AddLong => Message::AddLong(read_kind::<AddLong>(line)?),
+        MessageType::OrderExecuted => Message::OrderExecuted(read_kind::<OrderExecuted>(line)?),
+        MessageType::OrderCancel => Message::OrderCancel(read_kind::<OrderCancel>(line)?),
+        MessageType::TradeShort => Message::TradeShort(read_kind::<TradeShort>(line)?),
+        MessageType::TradeLong => Message::TradeLong(read_kind::<TradeLong>(line)?),
+        MessageType::TradeBreak => Message::TradeBreak(read_kind::<TradeBreak>(line)?),
     })
+}
+
+// The record of that kind in the line.
+fn read_kind<K: Kind>(line: &[u8]) -> Result<K::Record, FieldFault>
+    ensures { λ r. ⌜ Cases r (λ c. readRow row (now (line .entry)) ≡ Ok (values c)) (λ e. readRow row (now (line .entry)) ≡ Err e) ⌝ }
+{
+    K::read(line)
 }
 
 // The message's kind.
