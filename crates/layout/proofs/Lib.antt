@@ -4,3 +4,6 @@ pub mod Reading
 pub mod Scanning
 pub mod Writing
 pub mod Steps
+pub mod Sound
+pub mod Padding
+pub mod Spelling

@@ -10,12 +10,13 @@ use lib.ListN.{length, getD, take}
 use Rattle.std.specs.Options.{Cases}
 use Rattle.std.specs.declared.option.Option.{Option}
 use Rattle.std.specs.declared.option.Option.the-variants.{Some, None}
+use Rattle.std.specs.declared.result.Result.{Result}
 use Rattle.std.specs.declared.result.Result.the-variants.{Ok, Err}
-use Rattle.layout.specs.Slots.{Slot, width, holds, valueOf, walked, scanSlot, choice, isOneOf, Passes, Stops}
+use Rattle.layout.specs.Slots.{Slot, width, holds, valueOf, firstFailing, walked, scanSlot, choice, isOneOf, Passes, Stops}
 use Rattle.std.proofs.shelf.Lists.{getD-take, take-take}
 use Rattle.std.proofs.shelf.Tests.{cases-bool, eqb-true, or-left, or-from}
 use Rattle.layout.proofs.Scanning.{holds-part, passes-none, passes-step, stops-here, stops-short}
-use Rattle.layout.proofs.Search.{is-none, is-some, same-failing}
+use Rattle.layout.proofs.Search.{Outcome, outcome, is-none, is-some, same-failing}
 
 module _ (s : Slot) (xs : List ℕ) where
   pub scan-stops : (i : ℕ) → Stops (holds s xs) (width s) i → scanSlot s xs ≡ Err i
@@ -25,6 +26,19 @@ module _ (s : Slot) (xs : List ℕ) where
   pub scan-passes : Passes (holds s xs) (width s) → scanSlot s xs ≡ Ok (valueOf s (take (width s) xs))
   unfolding scanSlot
   scan-passes h = ap (walked s xs) (is-none (holds s xs) (width s) h)
+
+-- what it found, by what it answered
+abbrev pub Found : Slot → List ℕ → Result ℕ ℕ → Type 0
+Found s xs (Ok v) = Passes (holds s xs) (width s) × (valueOf s (take (width s) xs) ≡ v)
+Found s xs (Err i) = Stops (holds s xs) (width s) i
+
+found-walked : (s : Slot) (xs : List ℕ) (o : Option ℕ) → Outcome (holds s xs) (width s) o → Found s xs (walked s xs o)
+found-walked s xs (Some i) h = h
+found-walked s xs None h = (h, refl)
+
+pub scan-found : (s : Slot) (xs : List ℕ) → Found s xs (scanSlot s xs)
+unfolding scanSlot
+scan-found s xs = found-walked s xs (firstFailing (holds s xs) (width s)) (outcome (holds s xs) (width s))
 
 -- the walk looks at the field's own bytes
 walked-part : (s : Slot) (xs : List ℕ) (o : Option ℕ) → walked s xs o ≡ walked s (take (width s) xs) o

@@ -1,12 +1,13 @@
 -- A message's layout: its fields by offset. Reading, checking and writing go through the fields in that order.
 use mathlib.Core.Path.{_≡_}
+use mathlib.Core.Bool.{false}
 use mathlib.Core.List.{List, [], _∷_, _++_}
 use Prim.Native.Nat.{ℕ, _+_}
 use lib.ListN.{take, drop}
 use Rattle.std.specs.declared.result.Result.{Result}
 use Rattle.std.specs.declared.result.Result.the-variants.{Ok, Err}
 use Rattle.layout.specs.declared.fault.FieldFault.{FieldFault}
-use Rattle.layout.specs.Slots.{Slot, width, Spells, readSlot, checkSlot, spell, over}
+use Rattle.layout.specs.Slots.{Slot, width, Spells, keeps, Passes, Stops, inRange, valueOf, readSlot, checkSlot, spell, over}
 
 pub record Field : Type 0 where
   pub offset : ℕ
@@ -26,10 +27,28 @@ Laid [] xs (v ∷ vs) = ⊥
 Laid (f ∷ fs) xs [] = ⊥
 Laid (f ∷ fs) xs (v ∷ vs) = Spells (f .slot) (part f xs) v × Laid fs xs vs
 
--- the fields follow one another without a gap, from o to the end
-abbrev pub Tiled : ℕ → List Field → ℕ → Type 0
-Tiled o [] end = o ≡ end
-Tiled o (f ∷ fs) end = (f .offset ≡ o) × Tiled (o + width (f .slot)) fs end
+-- The first fault of a line, by the feed's rules: each field byte by byte, and then for its range.
+
+-- place i is the first at which the field's rule is broken
+abbrev pub BreaksAt : Slot → List ℕ → ℕ → Type 0
+BreaksAt s p i = Stops (keeps s p) (width s) i
+
+-- each byte keeps the rule, and the number is one that the field does not allow
+abbrev pub OutOfRange : Slot → List ℕ → Type 0
+OutOfRange s p = Passes (keeps s p) (width s) × (inRange s (valueOf s p) ≡ false)
+
+-- the fault's number, and the offset that it carries
+pub data FirstFault (xs : List ℕ) : List Field → ℕ → ℕ → Type 0 where
+  byte : {f : Field} {fs : List Field} (i : ℕ) → BreaksAt (f .slot) (part f xs) i → FirstFault xs (f ∷ fs) 4 (f .offset + i)
+  range : {f : Field} {fs : List Field} → OutOfRange (f .slot) (part f xs) → FirstFault xs (f ∷ fs) 5 (f .offset)
+  later : {f : Field} {fs : List Field} {n o : ℕ} (v : ℕ) → Spells (f .slot) (part f xs) v → FirstFault xs fs n o → FirstFault xs (f ∷ fs) n o
+
+-- The first field, by offset, whose value no bytes spell.
+pub data FirstUngiven : List Field → List ℕ → ℕ → Type 0 where
+  here : {f : Field} {fs : List Field} {v : ℕ} {vs : List ℕ} → ((p : List ℕ) → Spells (f .slot) p v → ⊥) → FirstUngiven (f ∷ fs) (v ∷ vs) (f .offset)
+  later : {f : Field} {fs : List Field} {v o : ℕ} {vs : List ℕ} (p : List ℕ) → Spells (f .slot) p v → FirstUngiven fs vs o → FirstUngiven (f ∷ fs) (v ∷ vs) o
+
+-- How they are read, checked and written.
 
 -- a value before the others, where those were read
 abbrev pub before : ℕ → Result (List ℕ) FieldFault → Result (List ℕ) FieldFault

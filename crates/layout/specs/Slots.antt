@@ -6,7 +6,7 @@ use Prim.Native.Nat.{ℕ, zero, suc, _+_, _-_, _/_, _^_, _<_, _≤_}
 use lib.Dec.{eqb, leb, ltb}
 use lib.ListN.{length, getD, take, drop, replicate}
 use Rattle.std.specs.shelf.Digits.{number as numberOf}
-use Rattle.std.specs.shelf.Lists.{All, Has}
+use Rattle.std.specs.shelf.Lists.{All}
 use Rattle.std.specs.declared.option.Option.{Option}
 use Rattle.std.specs.declared.option.Option.the-variants.{Some, None}
 use Rattle.std.specs.declared.result.Result.{Result}
@@ -51,9 +51,13 @@ pub record SpellsText (class : Class) (least w whole : ℕ) (p : List ℕ) (v : 
   pub size : length p ≡ w
   pub value : numberOf 256 (p ++ replicate (whole - w) 32) ≡ v
 
+abbrev pub isOneOf : List ℕ → ℕ → Bool
+isOneOf [] x = false
+isOneOf (l ∷ ls) x = eqb x l || isOneOf ls x
+
 pub record SpellsChoice (letters : List ℕ) (p : List ℕ) (v : ℕ) : Type 0 where
   pub alone : p ≡ v ∷ []
-  pub member : Has letters v
+  pub member : isOneOf letters v ≡ true
 
 abbrev pub Spells : Slot → List ℕ → ℕ → Type 0
 Spells (number base count low high) p v = SpellsNumber base count low high p v
@@ -66,10 +70,6 @@ Spells (choice letters) p v = SpellsChoice letters p v
 abbrev pub afterSpace : List ℕ → ℕ → Bool
 afterSpace p zero = false
 afterSpace p (suc j) = eqb (getD p j 0) 32
-
-abbrev pub isOneOf : List ℕ → ℕ → Bool
-isOneOf [] x = false
-isOneOf (l ∷ ls) x = eqb x l || isOneOf ls x
 
 -- the byte at place j of p keeps the field's rule, where all bytes before it do
 abbrev pub keeps : Slot → List ℕ → ℕ → Bool
