@@ -7,3 +7,4 @@ pub mod Steps
 pub mod Sound
 pub mod Padding
 pub mod Spelling
+pub mod Laying
