@@ -8,3 +8,4 @@ pub mod Sound
 pub mod Padding
 pub mod Spelling
 pub mod Laying
+pub mod Putting

@@ -44,6 +44,7 @@ pub record Lawful (s : Slot) : Type 0 where
   pub inside : (p : List ℕ) (v : ℕ) → Spells s p v → inRange s v ≡ true
   pub spells : (p : List ℕ) → length p ≡ width s → Passes (keeps s p) (width s) → inRange s (valueOf s p) ≡ true → Spells s p (valueOf s p)
   pub again : (p : List ℕ) (v : ℕ) → Spells s p v → spell s v ≡ p
+  pub long : (v : ℕ) → length (spell s v) ≡ width s
   pub given : (p : List ℕ) (v : ℕ) → Spells s p v → givable s v ≡ true
   pub gives : (v : ℕ) → givable s v ≡ true → Spells s (spell s v) v
 
@@ -108,6 +109,7 @@ module _ (base count low high : ℕ) (two : 2 ≤ base) (few : base ≤ 36) (fit
           most = leb-true _ high (both .1);
         };
     again = number-again;
+    long = λ v. length-digitBytes base count v;
     given = λ p v h. in-range v (h .least) (h .most);
     gives = λ v e. let both = and-parts (leb low v) (leb v high) e in number-gives v (leb-true low v (both .0)) (leb-true v high (both .1));
   }
@@ -156,6 +158,7 @@ module _ (k : Class) (least w whole : ℕ) (enough : least ≤ w) where
     inside = λ p v h. refl;
     spells = λ p size h e. text-spells p size h;
     again = text-again;
+    long = λ v. length-digitBytes 256 w (v / 256 ^ (whole - w));
     given = text-given;
     gives = λ v e. text-gives v (spell (text k least w whole) v) _ (length-digitBytes 256 w _) (scan-found (text k least w whole) (spell (text k least w whole) v)) e;
   }
@@ -174,6 +177,7 @@ lawful-choice letters = record {
   inside = λ p v h. refl;
   spells = λ p size h e. record { alone = one-item p size; member = h 0 (omega arith) };
   again = λ p v h. sym (h .alone);
+  long = λ v. refl;
   given = λ p v h. h .member;
   gives = λ v e. record { alone = refl; member = e };
 }

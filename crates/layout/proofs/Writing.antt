@@ -6,7 +6,7 @@ use Prim.Native.Nat.{ℕ, zero, suc, _+_, _-_, _/_, _%_, _^_, _<_, _≤_}
 use native.Mathlib.Numerals.{add-one}
 use native.Mathlib.Omega.{arith}
 use lib.ListN.{length, getD, take, drop, set, take-append-drop}
-use Rattle.std.proofs.shelf.Lists.{take-more, set-at, length-take-le, length-map, length-append, take-at}
+use Rattle.std.proofs.shelf.Lists.{take-more, set-at, length-take-le, length-map, length-append, length-drop, take-at, drop-at, drop-drop}
 use Rattle.std.proofs.shelf.Tests.{cond-true, cond-false, le-leb, lt-leb}
 use Rattle.layout.specs.Bytes.{byteIn}
 use Rattle.layout.specs.Digits.{digits, digitBytes}
@@ -40,6 +40,27 @@ module _ (o : ℕ) (p xs : List ℕ) where
   pub over-past : length xs < o + length p → over o p xs ≡ xs
   unfolding over
   over-past h = cond-false _ _ _ (lt-leb _ _ h)
+
+-- what lies before, up to the end of and after what was written
+module _ (o : ℕ) (p xs : List ℕ) (fits : o + length p ≤ length xs) where
+  parts : over o p xs ≡ (take o xs ++ p) ++ drop (o + length p) xs
+  parts = over-within o p xs fits ∙ sym (append-assoc (take o xs) p (drop (o + length p) xs))
+
+  front : length (take o xs ++ p) ≡ o + length p
+  front = length-append (take o xs) p ∙ ap (λ n. n + length p) (length-take-le o xs (omega arith))
+
+  pub take-over : take (o + length p) (over o p xs) ≡ take o xs ++ p
+  take-over = rw parts (take-at (take o xs ++ p) (drop (o + length p) xs) (o + length p) front)
+
+  pub drop-over : (n : ℕ) → o + length p ≤ n → drop n (over o p xs) ≡ drop n xs
+  drop-over n le =
+      let there : o + length p + (n - (o + length p)) ≡ n = omega arith in
+      ap (λ k. drop k (over o p xs)) (sym there) ∙ sym (drop-drop (n - (o + length p)) (o + length p) (over o p xs))
+      ∙ ap (drop (n - (o + length p))) (rw parts (drop-at (take o xs ++ p) (drop (o + length p) xs) (o + length p) front))
+      ∙ drop-drop (n - (o + length p)) (o + length p) xs ∙ ap (λ k. drop k xs) there
+
+  pub length-over : length (over o p xs) ≡ length xs
+  length-over = rw (parts, length-append, front, length-drop) (omega arith)
 
 -- a field that was written at the front is read there
 pub scan-over : (s : Slot) (p xs : List ℕ) → length p ≡ width s → width s ≤ length xs → scanSlot s (over 0 p xs) ≡ scanSlot s p
