@@ -10,13 +10,13 @@ use lib.ListN.{length, take, drop}
 use Rattle.std.specs.declared.result.Result.{Result}
 use Rattle.std.specs.declared.result.Result.the-variants.{Ok, Err}
 use Rattle.std.proofs.shelf.Lists.{take-all, length-take-le, length-drop, drop-drop}
-use Rattle.std.proofs.shelf.Tests.{and-parts, eqb-true, lt-ltb, cases-bool}
+use Rattle.std.proofs.shelf.Tests.{and-parts, and-right, eqb-true, lt-ltb, cases-bool}
 use Rattle.layout.specs.declared.fault.FieldFault.{FieldFault}
 use Rattle.layout.specs.declared.fault.FieldFault.the-variants.{Byte, Range}
 use Rattle.layout.specs.declared.fault.Spot.{Spot}
 use Rattle.layout.specs.Slots.{Slot, width, Spells, keeps, holds, Passes, Stops, valueOf, inRange, scanSlot, ranged, readSlot, spot, origin}
 use Rattle.layout.specs.Fields.{Field, part, Laid, BreaksAt, OutOfRange, FirstFault, byte, range, later, before, thenRead, readFields}
-use Rattle.layout.proofs.Reading.{Found, scan-found, scan-part, scan-passes}
+use Rattle.layout.proofs.Reading.{Found, scan-found, scan-part, scan-passes, scan-stops}
 use Rattle.layout.proofs.Sound.{sound}
 use Rattle.layout.proofs.Spelling.{Lawful, lawful, holds-all, keeps-all}
 
@@ -53,6 +53,18 @@ module _ (s : Slot) (laws : Lawful s) (letter offset : ℕ) (ys : List ℕ) (wit
       let walk = scan-passes s (take (width s) ys) (holds-all s (take (width s) ys) (width s) (omega (arith, size)) (laws .passes _ v h)) in
       let found : scanSlot s ys ≡ Ok v = scan-part s ys within ∙ walk ∙ ap (λ q. Ok (valueOf s q)) all-own ∙ ap Ok (laws .value _ v h) in
       rw (found, laws .inside _ v h)
+
+  pub reads-break : (i : ℕ) → BreaksAt s (take (width s) ys) i → readSlot s letter offset ys ≡ Err (Byte (spot letter offset i))
+  reads-break i h =
+      let q = take (width s) ys in
+      let found : scanSlot s ys ≡ Err i = scan-part s ys within ∙ scan-stops s q i (h .0, holds-all s q i (omega (arith, size, h .0)) (h .1), and-right (ltb i (length q)) (keeps s q i) (h .2)) in
+      rw found
+
+  pub reads-out : OutOfRange s (take (width s) ys) → readSlot s letter offset ys ≡ Err (Range (origin letter offset))
+  reads-out h =
+      let q = take (width s) ys in
+      let found : scanSlot s ys ≡ Ok (valueOf s q) = scan-part s ys within ∙ scan-passes s q (holds-all s q (width s) (omega (arith, size)) (h .0)) ∙ ap (λ p. Ok (valueOf s p)) all-own in
+      rw (found, h .1)
 
   -- what the answer says of the field's bytes
   abbrev pub Answers : Result (ℕ × List ℕ) FieldFault → Type 0
@@ -123,3 +135,21 @@ module _ (letter : ℕ) (xs : List ℕ) where
       let here = reads-spelled (f .slot) (n .laws) letter (f .offset) (drop (f .offset) xs) within v (l .0) in
       let more = reads-laid (o + width (f .slot)) fs end (n .rest) le vs (l .1) in
       rw (← n .start, here, rest, more)
+
+  -- the first fault is the one that reading answers
+  abbrev pub fault : ℕ → ℕ → FieldFault
+  fault n o = cond (eqb n 4) (Byte (origin letter o)) (Range (origin letter o))
+
+  fault-step : (f : Field) (fs : List Field) (laws : Lawful (f .slot)) → width (f .slot) ≤ length (drop (f .offset) xs) → ((n e : ℕ) → FirstFault xs fs n e → readFields letter fs (drop (width (f .slot)) (drop (f .offset) xs)) ≡ Err (fault n e)) → {n e : ℕ} → FirstFault xs (f ∷ fs) n e → readFields letter (f ∷ fs) (drop (f .offset) xs) ≡ Err (fault n e)
+  fault-step f fs laws within more (byte i b) = rw (reads-break (f .slot) laws letter (f .offset) (drop (f .offset) xs) within i b)
+  fault-step f fs laws within more (range b) = rw (reads-out (f .slot) laws letter (f .offset) (drop (f .offset) xs) within b)
+  fault-step f fs laws within more {n} {e} (later v b h) = rw (reads-spelled (f .slot) laws letter (f .offset) (drop (f .offset) xs) within v b, more n e h)
+
+  pub reads-fault : (o : ℕ) (fs : List Field) (end : ℕ) → tiled o fs end ≡ true → end ≤ length xs → {n e : ℕ} → FirstFault xs fs n e → readFields letter fs (drop o xs) ≡ Err (fault n e)
+  reads-fault o [] end t le h = elim h [ ]
+  reads-fault o (f ∷ fs) end t le h =
+      let x = next o f fs end t in
+      let past = tiled-le (o + width (f .slot)) fs end (x .rest) in
+      let within : width (f .slot) ≤ length (drop (f .offset) xs) = simp length-drop (omega (arith, x .start)) in
+      let rest : drop (width (f .slot)) (drop (f .offset) xs) ≡ drop (o + width (f .slot)) xs = drop-drop (width (f .slot)) (f .offset) xs ∙ ap (λ k. drop (k + width (f .slot)) xs) (x .start) in
+      rw (← x .start) (fault-step f fs (x .laws) within (λ n e g. rw rest (reads-fault (o + width (f .slot)) fs end (x .rest) le g)) h)

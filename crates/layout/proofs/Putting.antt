@@ -103,3 +103,15 @@ put-line o (f ∷ fs) end e (v ∷ vs) m room le =
     let before : take (o + width (f .slot)) (over o p room) ≡ take o room ++ p = rw (← size) (take-over o p room fits) in
     let after : drop end (over o p room) ≡ drop end room = drop-over o p room fits end (omega arith) in
     rw (n .start, more, before, after) (append-assoc (take o room) p (lineOf fs vs ++ drop end room) ∙ ap (λ ys. take o room ++ ys) (sym (append-assoc p (lineOf fs vs) (drop end room))))
+
+-- the first field that no bytes spell is the one that the check answers
+ungiven : (s : Slot) → Lawful s → (v : ℕ) → ((p : List ℕ) → Spells s p v → ⊥) → givable s v ≡ false
+ungiven s laws v none = ⊎-elim (λ e. absurd (none (spell s v) (laws .gives v e))) (λ e. e) (cases-bool (givable s v))
+
+check-step : (letter : ℕ) (f : Field) (fs : List Field) → Lawful (f .slot) → ((vs : List ℕ) (e : ℕ) → FirstUngiven fs vs e → checkFields letter fs vs ≡ Err (Range (origin letter e))) → {vs : List ℕ} {e : ℕ} → FirstUngiven (f ∷ fs) vs e → checkFields letter (f ∷ fs) vs ≡ Err (Range (origin letter e))
+check-step letter f fs laws more (here {v = v} none) = rw (ungiven (f .slot) laws v none)
+check-step letter f fs laws more (later {v = v} {o = o} {vs = vs} p h rest) = checks f letter v (checkFields letter fs vs) (laws .given p v h) ∙ more vs o rest
+
+pub check-ungiven : (letter o : ℕ) (fs : List Field) (end : ℕ) → tiled o fs end ≡ true → {vs : List ℕ} {e : ℕ} → FirstUngiven fs vs e → checkFields letter fs vs ≡ Err (Range (origin letter e))
+check-ungiven letter o [] end t h = elim h [ ]
+check-ungiven letter o (f ∷ fs) end t h = let x = next o f fs end t in check-step letter f fs (x .laws) (λ vs e g. check-ungiven letter (o + width (f .slot)) fs end (x .rest) g) h
