@@ -1,0 +1,4 @@
+pub mod Table
+pub mod Back
+pub mod Judging
+pub mod Laws

@@ -76,12 +76,17 @@ customer = choice (82 ∷ 32 ∷ [])
 abbrev pub mark : MessageType → Slot
 mark t = choice (letterOf t ∷ [])
 
+-- the fields of each kind from offset 9 on
+abbrev pub bodyOf : MessageType → List Field
+bodyOf SymbolClear = at 9 longSymbol ∷ []
+bodyOf AddShort = at 9 identifier ∷ at 21 side ∷ at 22 shares ∷ at 28 shortSymbol ∷ at 34 price ∷ at 44 display ∷ []
+bodyOf AddLong = at 9 identifier ∷ at 21 side ∷ at 22 shares ∷ at 28 longSymbol ∷ at 36 price ∷ at 46 display ∷ at 47 participant ∷ at 51 customer ∷ []
+bodyOf OrderExecuted = at 9 identifier ∷ at 21 shares ∷ at 27 identifier ∷ []
+bodyOf OrderCancel = at 9 identifier ∷ at 21 shares ∷ []
+bodyOf TradeShort = at 9 identifier ∷ at 21 tradeSide ∷ at 22 shares ∷ at 28 shortSymbol ∷ at 34 price ∷ at 44 identifier ∷ []
+bodyOf TradeLong = at 9 identifier ∷ at 21 tradeSide ∷ at 22 shares ∷ at 28 longSymbol ∷ at 36 price ∷ at 46 identifier ∷ []
+bodyOf TradeBreak = at 9 identifier ∷ []
+
+-- every kind has a time at 0 and its letter at 8
 abbrev pub layoutOf : MessageType → List Field
-layoutOf SymbolClear = at 0 time ∷ at 8 (mark SymbolClear) ∷ at 9 longSymbol ∷ []
-layoutOf AddShort = at 0 time ∷ at 8 (mark AddShort) ∷ at 9 identifier ∷ at 21 side ∷ at 22 shares ∷ at 28 shortSymbol ∷ at 34 price ∷ at 44 display ∷ []
-layoutOf AddLong = at 0 time ∷ at 8 (mark AddLong) ∷ at 9 identifier ∷ at 21 side ∷ at 22 shares ∷ at 28 longSymbol ∷ at 36 price ∷ at 46 display ∷ at 47 participant ∷ at 51 customer ∷ []
-layoutOf OrderExecuted = at 0 time ∷ at 8 (mark OrderExecuted) ∷ at 9 identifier ∷ at 21 shares ∷ at 27 identifier ∷ []
-layoutOf OrderCancel = at 0 time ∷ at 8 (mark OrderCancel) ∷ at 9 identifier ∷ at 21 shares ∷ []
-layoutOf TradeShort = at 0 time ∷ at 8 (mark TradeShort) ∷ at 9 identifier ∷ at 21 tradeSide ∷ at 22 shares ∷ at 28 shortSymbol ∷ at 34 price ∷ at 44 identifier ∷ []
-layoutOf TradeLong = at 0 time ∷ at 8 (mark TradeLong) ∷ at 9 identifier ∷ at 21 tradeSide ∷ at 22 shares ∷ at 28 longSymbol ∷ at 36 price ∷ at 46 identifier ∷ []
-layoutOf TradeBreak = at 0 time ∷ at 8 (mark TradeBreak) ∷ at 9 identifier ∷ []
+layoutOf t = at 0 time ∷ at 8 (mark t) ∷ bodyOf t
