@@ -65,5 +65,5 @@ fitted m place size (Ok u) = cond (leb (place + lengthOf (typeOf m)) size) (Ok (
 fitted m place size (Err e) = Err (Field e)
 
 abbrev pub placed : Message → ℕ → List ℕ → Result (Unit {0}) FieldFault → List ℕ
-placed m place buf (Ok u) = over place (written m) buf
+placed m place buf (Ok u) = cond (leb (place + lengthOf (typeOf m)) (length buf)) (over place (written m) buf) buf
 placed m place buf (Err e) = buf
