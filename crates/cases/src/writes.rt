@@ -1,9 +1,9 @@
 // Writes messages at places of a buffer of 32 bytes, and prints what was answered and what the buffer holds then.
+use forms::refusal::Refusal;
+use forms::refusal::RefusalDisplay;
 use messages::code::Display;
 use messages::code::Side;
-use messages::fault::MessageFault;
 use messages::message::Message;
-use messages::number::number_of;
 use messages::record::AddOrder;
 use messages::record::Cancel;
 use pitch::writer::write;
@@ -39,14 +39,49 @@ pub fn show_fields(rt: &LibcRuntime) -> io::Result<()> {
         display: Display::Shown,
     };
     show(rt, &Message::AddShort(good), 0)?;
-    show(rt, &Message::AddShort(AddOrder { time: 86_400_000, ..good }), 0)?;
-    show(rt, &Message::AddShort(AddOrder { order: 4_738_381_338_321_616_896, ..good }), 0)?;
+    show(
+        rt,
+        &Message::AddShort(AddOrder {
+            time: 86_400_000,
+            ..good
+        }),
+        0,
+    )?;
+    show(
+        rt,
+        &Message::AddShort(AddOrder {
+            order: 4_738_381_338_321_616_896,
+            ..good
+        }),
+        0,
+    )?;
     show(rt, &Message::AddShort(AddOrder { shares: 0, ..good }), 0)?;
-    show(rt, &Message::AddShort(AddOrder { shares: 1_000_000, ..good }), 0)?;
+    show(
+        rt,
+        &Message::AddShort(AddOrder {
+            shares: 1_000_000,
+            ..good
+        }),
+        0,
+    )?;
     // Seven letters, which the short form has no room for.
-    show(rt, &Message::AddShort(AddOrder { symbol: 0x4142_4344_4546_4720, ..good }), 0)?;
+    show(
+        rt,
+        &Message::AddShort(AddOrder {
+            symbol: 0x4142_4344_4546_4720,
+            ..good
+        }),
+        0,
+    )?;
     show(rt, &Message::AddShort(AddOrder { symbol: 0, ..good }), 0)?;
-    show(rt, &Message::AddShort(AddOrder { price: 10_000_000_000, ..good }), 33)
+    show(
+        rt,
+        &Message::AddShort(AddOrder {
+            price: 10_000_000_000,
+            ..good
+        }),
+        33,
+    )
 }
 
 fn show(rt: &LibcRuntime, message: &Message, place: usize) -> io::Result<()> {
@@ -56,18 +91,8 @@ fn show(rt: &LibcRuntime, message: &Message, place: usize) -> io::Result<()> {
     match answer {
         Ok(size) => println!(rt, "(place {place} (wrote {size}) {held})"),
         Err(fault) => {
-            let number = number_of(&fault);
-            let offset = offset_of(&fault);
-            println!(rt, "(place {place} (refused {number} {offset}) {held})")
+            let refusal = Refusal(&fault);
+            println!(rt, "(place {place} {refusal} {held})")
         }
-    }
-}
-
-// The offset that the fault carries, and 0 where it carries none.
-fn offset_of(fault: &MessageFault) -> usize {
-    match fault {
-        MessageFault::Field(layout::fault::FieldFault::Byte(spot)) => spot.offset,
-        MessageFault::Field(layout::fault::FieldFault::Range(spot)) => spot.offset,
-        _ => 0,
     }
 }

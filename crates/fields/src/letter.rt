@@ -30,7 +30,11 @@ pub trait Lettered {
 }
 
 // The value at the front of the line, and what is left of the line.
-pub fn read_letter<L: Lettered>(line: &[u8], letter: u8, offset: u8) -> Result<(L, &[u8]), FieldFault>
+pub fn read_letter<L: Lettered>(
+    line: &[u8],
+    letter: u8,
+    offset: u8,
+) -> Result<(L, &[u8]), FieldFault>
     ensures { λ r. ⌜ Cases r (λ p. readSlot (choice letters) letter offset (now (line .entry)) ≡ Ok (written (p .0), now (p .1))) (λ e. readSlot (choice letters) letter offset (now (line .entry)) ≡ Err e) ⌝ }
 {
     match scan(line) {

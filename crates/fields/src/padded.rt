@@ -1,6 +1,5 @@
 // What a padded field is.
 ghost use Prim.Native.Nat.{_≤_};
-
 use layout::class::Class;
 
 // At least so many bytes of a class and then only spaces, `width` bytes in all. Its number is that of its bytes, filled up
@@ -15,9 +14,24 @@ pub struct Text {
     ghost fits: { whole ≤ 8 },
 }
 
-pub const SHORT_SYMBOL: Text = Text { class: Class::Graphic, least: 1, width: 6, whole: 8 };
+pub const SHORT_SYMBOL: Text = Text {
+    class: Class::Graphic,
+    least: 1,
+    width: 6,
+    whole: 8,
+};
 
-pub const LONG_SYMBOL: Text = Text { class: Class::Graphic, least: 1, width: 8, whole: 8 };
+pub const LONG_SYMBOL: Text = Text {
+    class: Class::Graphic,
+    least: 1,
+    width: 8,
+    whole: 8,
+};
 
 // A market participant; blank where the order has none.
-pub const PARTICIPANT: Text = Text { class: Class::Letter, least: 0, width: 4, whole: 4 };
+pub const PARTICIPANT: Text = Text {
+    class: Class::Letter,
+    least: 0,
+    width: 4,
+    whole: 4,
+};

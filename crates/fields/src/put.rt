@@ -8,7 +8,7 @@ ghost use Rattle.layout.specs.Digits.{digitBytes};
 ghost use Rattle.layout.specs.Slots.{over};
 
 // Writes so many digits of the value over the bytes at the offset; where they do not fit, nothing.
-pub fn put_digits(room: &mut [u8], offset: u8, base: u64, count: u8, value: u64)
+pub(crate) fn put_digits(room: &mut [u8], offset: u8, base: u64, count: u8, value: u64)
     requires { ⌜ 2 ≤ base ⌝ ∗ ⌜ base ≤ 256 ⌝ }
     ensures { λ _. ⌜ now (room .exit) ≡ over offset (digitBytes base count value) (now (room .entry)) ⌝ }
 {
@@ -44,7 +44,7 @@ fn byte_in(base: u64, digit: u64) -> u8
 }
 
 // Writes a byte over the one at the offset; where there is none, nothing.
-pub fn put_byte(room: &mut [u8], offset: u8, byte: u8)
+pub(crate) fn put_byte(room: &mut [u8], offset: u8, byte: u8)
     ensures { λ _. ⌜ now (room .exit) ≡ over offset (byte ∷ []) (now (room .entry)) ⌝ }
 {
     let at = offset as usize;

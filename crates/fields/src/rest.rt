@@ -6,7 +6,7 @@ ghost use Rattle.layout.specs.Slots.{spot, origin};
 use layout::fault::Spot;
 
 // What is left of the line past so many bytes.
-pub fn past(line: &[u8], count: u8) -> &[u8]
+pub(crate) fn past(line: &[u8], count: u8) -> &[u8]
     ensures { λ r. ⌜ now r ≡ drop count (now (line .entry)) ⌝ }
 {
     if count as usize <= line.len() {
@@ -18,7 +18,7 @@ pub fn past(line: &[u8], count: u8) -> &[u8]
 }
 
 // The place of the byte `index` places into the field at the offset.
-pub fn spot_at(letter: u8, offset: u8, index: u8) -> Spot
+pub(crate) fn spot_at(letter: u8, offset: u8, index: u8) -> Spot
     ensures { λ r. ⌜ r ≡ spot letter offset index ⌝ }
 {
     Spot {
@@ -28,7 +28,7 @@ pub fn spot_at(letter: u8, offset: u8, index: u8) -> Spot
 }
 
 // The place of the field's first byte.
-pub fn spot_of(letter: u8, offset: u8) -> Spot
+pub(crate) fn spot_of(letter: u8, offset: u8) -> Spot
     ensures { λ r. ⌜ r ≡ origin letter offset ⌝ }
 {
     Spot {

@@ -9,7 +9,7 @@ ghost use Rattle.std.specs.declared.result.Result.the-variants.{Ok, Err};
 ghost use Rattle.std.specs.shelf.Digits.{numberAfter};
 ghost use Rattle.layout.specs.Bytes.{isOf};
 ghost use Rattle.layout.specs.Slots.{readSlot, checkSlot, scanSlot, spell, givable, over};
-ghost use Rattle.fields.specs.Kinds.{textSlot};
+ghost use Rattle.fields.specs.Slots.{textSlot};
 use crate::padded::Text;
 use crate::put::put_digits;
 use crate::rest::past;
@@ -20,7 +20,12 @@ use layout::class::Class;
 use layout::fault::FieldFault;
 
 // The text's number at the front of the line, and what is left of the line.
-pub fn read_text(line: &[u8], letter: u8, offset: u8, field: Text) -> Result<(u64, &[u8]), FieldFault>
+pub fn read_text(
+    line: &[u8],
+    letter: u8,
+    offset: u8,
+    field: Text,
+) -> Result<(u64, &[u8]), FieldFault>
     ensures { λ r. ⌜ Cases r (λ p. readSlot (textSlot field) letter offset (now (line .entry)) ≡ Ok (p .0, now (p .1))) (λ e. readSlot (textSlot field) letter offset (now (line .entry)) ≡ Err e) ⌝ }
 {
     match scan(line, field) {
@@ -44,7 +49,13 @@ pub fn check_text(value: u64, letter: u8, offset: u8, field: Text) -> Result<(),
 pub fn put_text(room: &mut [u8], offset: u8, field: Text, value: u64)
     ensures { λ _. ⌜ now (room .exit) ≡ over offset (spell (textSlot field) value) (now (room .entry)) ⌝ }
 {
-    put_digits(room, offset, 256, field.width, unfilled(value, field.whole - field.width));
+    put_digits(
+        room,
+        offset,
+        256,
+        field.width,
+        unfilled(value, field.whole - field.width),
+    );
 }
 
 // The number of the text at the front, or the place of the first byte that breaks its rule.

@@ -28,7 +28,9 @@ pub struct AddShort;
 
 pub impl Kind for AddShort as AddShortKind {
     const LETTER: u8 = b'A';
+
     const LENGTH: usize = 45;
+
     type Record = AddOrder;
 
     ghost row = { kind };

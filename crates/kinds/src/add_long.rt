@@ -31,7 +31,9 @@ pub struct AddLong;
 
 pub impl Kind for AddLong as AddLongKind {
     const LETTER: u8 = b'd';
+
     const LENGTH: usize = 52;
+
     type Record = AttributedAdd;
 
     ghost row = { kind };

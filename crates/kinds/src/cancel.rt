@@ -17,7 +17,9 @@ pub struct OrderCancel;
 
 pub impl Kind for OrderCancel as OrderCancelKind {
     const LETTER: u8 = b'X';
+
     const LENGTH: usize = 27;
+
     type Record = Cancel;
 
     ghost row = { kind };

@@ -19,7 +19,9 @@ pub struct SymbolClear;
 
 pub impl Kind for SymbolClear as SymbolClearKind {
     const LETTER: u8 = b's';
+
     const LENGTH: usize = 17;
+
     type Record = ClearSymbol;
 
     ghost row = { kind };
@@ -30,10 +32,7 @@ pub impl Kind for SymbolClear as SymbolClearKind {
         let (time, rest) = read_number(line, Self::LETTER, 0, TIME)?;
         let (_, rest) = read_mark(rest, Self::LETTER, 8)?;
         let (symbol, _) = read_text(rest, Self::LETTER, 9, LONG_SYMBOL)?;
-        Ok(ClearSymbol {
-            time,
-            symbol,
-        })
+        Ok(ClearSymbol { time, symbol })
     }
 
     fn check(clear: &ClearSymbol) -> Result<(), FieldFault> {

@@ -17,7 +17,9 @@ pub struct OrderExecuted;
 
 pub impl Kind for OrderExecuted as OrderExecutedKind {
     const LETTER: u8 = b'E';
+
     const LENGTH: usize = 39;
+
     type Record = Execution;
 
     ghost row = { kind };

@@ -11,7 +11,9 @@ use layout::fault::FieldFault;
 
 pub trait Kind {
     const LETTER: u8;
+
     const LENGTH: usize;
+
     type Record;
 
     // Its row of the layout table.

@@ -26,7 +26,9 @@ pub struct TradeShort;
 
 pub impl Kind for TradeShort as TradeShortKind {
     const LETTER: u8 = b'P';
+
     const LENGTH: usize = 56;
+
     type Record = Trade;
 
     ghost row = { kind };

@@ -16,7 +16,9 @@ pub struct TradeBreak;
 
 pub impl Kind for TradeBreak as TradeBreakKind {
     const LETTER: u8 = b'B';
+
     const LENGTH: usize = 21;
+
     type Record = Break;
 
     ghost row = { kind };
@@ -27,10 +29,7 @@ pub impl Kind for TradeBreak as TradeBreakKind {
         let (time, rest) = read_number(line, Self::LETTER, 0, TIME)?;
         let (_, rest) = read_mark(rest, Self::LETTER, 8)?;
         let (execution, _) = read_number(rest, Self::LETTER, 9, ID)?;
-        Ok(Break {
-            time,
-            execution,
-        })
+        Ok(Break { time, execution })
     }
 
     fn check(broken: &Break) -> Result<(), FieldFault> {

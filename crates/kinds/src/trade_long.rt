@@ -26,7 +26,9 @@ pub struct TradeLong;
 
 pub impl Kind for TradeLong as TradeLongKind {
     const LETTER: u8 = b'r';
+
     const LENGTH: usize = 58;
+
     type Record = Trade;
 
     ghost row = { kind };

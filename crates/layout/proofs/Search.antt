@@ -33,9 +33,9 @@ one-outcome ok n (Some i) None g h = absurd (both-ways (ok i) (g .2) (h i (g .0)
 one-outcome ok n (Some i) (Some k) g h =
     ap Some
     (⊎-elim
-      (λ e. e)
-      (⊎-elim (λ lt. absurd (both-ways (ok i) (g .2) (h .1 i lt))) (λ gt. absurd (both-ways (ok k) (h .2) (g .1 k gt))))
-      (cases-order i k))
+    (λ e. e)
+    (⊎-elim (λ lt. absurd (both-ways (ok i) (g .2) (h .1 i lt))) (λ gt. absurd (both-ways (ok k) (h .2) (g .1 k gt))))
+    (cases-order i k))
 
 pub is-none : (ok : ℕ → Bool) (n : ℕ) → Passes ok n → firstFailing ok n ≡ None
 is-none ok n h = one-outcome ok n (firstFailing ok n) None (outcome ok n) h

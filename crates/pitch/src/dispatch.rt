@@ -30,7 +30,7 @@ use messages::message::Message;
 use messages::types::MessageType;
 
 // The kind of that letter.
-pub fn type_of(letter: u8) -> Option<MessageType>
+pub(crate) fn type_of(letter: u8) -> Option<MessageType>
     ensures { λ r. ⌜ r ≡ typeAmong types letter ⌝ }
 {
     match letter {
@@ -47,7 +47,7 @@ pub fn type_of(letter: u8) -> Option<MessageType>
 }
 
 // How long its lines are.
-pub fn length_of(kind: MessageType) -> usize
+pub(crate) fn length_of(kind: MessageType) -> usize
     ensures { λ r. ⌜ r ≡ lengthOf kind ⌝ }
 {
     match kind {
@@ -63,19 +63,21 @@ pub fn length_of(kind: MessageType) -> usize
 }
 
 // The message of that kind in the line.
-pub fn read_as(kind: MessageType, line: &[u8]) -> Result<Message, MessageFault>
+pub(crate) fn read_as(kind: MessageType, line: &[u8]) -> Result<Message, MessageFault>
     ensures { λ r. ⌜ Cases r (λ m. readAs kind (now (line .entry)) ≡ Ok (told m)) (λ e. readAs kind (now (line .entry)) ≡ Err e) ⌝ }
 {
-    Ok(match kind {
-        MessageType::SymbolClear => Message::SymbolClear(read_kind::<SymbolClear>(line)?),
-        MessageType::AddShort => Message::AddShort(read_kind::<AddShort>(line)?),
-        MessageType::AddLong => Message::AddLong(read_kind::<AddLong>(line)?),
-        MessageType::OrderExecuted => Message::OrderExecuted(read_kind::<OrderExecuted>(line)?),
-        MessageType::OrderCancel => Message::OrderCancel(read_kind::<OrderCancel>(line)?),
-        MessageType::TradeShort => Message::TradeShort(read_kind::<TradeShort>(line)?),
-        MessageType::TradeLong => Message::TradeLong(read_kind::<TradeLong>(line)?),
-        MessageType::TradeBreak => Message::TradeBreak(read_kind::<TradeBreak>(line)?),
-    })
+    Ok(
+        match kind {
+            MessageType::SymbolClear => Message::SymbolClear(read_kind::<SymbolClear>(line)?),
+            MessageType::AddShort => Message::AddShort(read_kind::<AddShort>(line)?),
+            MessageType::AddLong => Message::AddLong(read_kind::<AddLong>(line)?),
+            MessageType::OrderExecuted => Message::OrderExecuted(read_kind::<OrderExecuted>(line)?),
+            MessageType::OrderCancel => Message::OrderCancel(read_kind::<OrderCancel>(line)?),
+            MessageType::TradeShort => Message::TradeShort(read_kind::<TradeShort>(line)?),
+            MessageType::TradeLong => Message::TradeLong(read_kind::<TradeLong>(line)?),
+            MessageType::TradeBreak => Message::TradeBreak(read_kind::<TradeBreak>(line)?),
+        },
+    )
 }
 
 // The record of that kind in the line.
@@ -86,7 +88,7 @@ fn read_kind<K: Kind>(line: &[u8]) -> Result<K::Record, FieldFault>
 }
 
 // The message's kind.
-pub fn kind_of(message: &Message) -> MessageType
+pub(crate) fn kind_of(message: &Message) -> MessageType
     ensures { λ r. ⌜ r ≡ typeOf (now (message .entry)) ⌝ }
 {
     match message {
@@ -102,7 +104,7 @@ pub fn kind_of(message: &Message) -> MessageType
 }
 
 // The message's first field that no line could give, if there is one.
-pub fn check(message: &Message) -> Result<(), FieldFault>
+pub(crate) fn check(message: &Message) -> Result<(), FieldFault>
     ensures { λ r. ⌜ r ≡ checked (now (message .entry)) ⌝ }
 {
     match message {
@@ -118,7 +120,7 @@ pub fn check(message: &Message) -> Result<(), FieldFault>
 }
 
 // Writes each field of the message over the bytes at its offset.
-pub fn put(message: &Message, room: &mut [u8])
+pub(crate) fn put(message: &Message, room: &mut [u8])
     ensures { λ _. ⌜ now (room .exit) ≡ putFields (layoutOf (typeOf (now (message .entry)))) (valuesOf (now (message .entry))) (now (room .entry)) ⌝ }
 {
     match message {

@@ -15,7 +15,7 @@ use Rattle.layout.specs.Slots.{valueOf, keeps}
 use Rattle.layout.proofs.Digits.{push-lt}
 use Rattle.layout.proofs.Reading.{scan-stops, scan-passes}
 use Rattle.layout.proofs.Scanning.{number-more, push-fits, passes-none, passes-step, stops-here, stops-short}
-use Rattle.fields.specs.Kinds.{numberSlot}
+use Rattle.fields.specs.Slots.{numberSlot}
 use Rattle.fields.proofs.number.scan.Needs as need
 
 pub loop-i-holds : need.loop-i-holds
@@ -40,8 +40,7 @@ add-value c = fits-bits 64 tt (push-fits _ _ (c .args .field .count) _ _ (c .loo
 pub loop-i-again : need.loop-i-again
 loop-i-again c =
     let w = ap (λ r. r .worth) (c .look-worth .ensures) in
-    let digit = c .if-worth-field .left in
-    (
+    let digit = c .if-worth-field .left in (
       passes-step (numberSlot (c .args .field)) (c .args .line .now) _ (c .loop-i .inv .0) (c .if-line-i .left) (lt-ltb _ _ (rw w at digit)),
       rw (number-more _ worthOf _ _ (c .if-line-i .left), ← c .loop-i .inv .1, w),
       push-lt _ _ _ _ (c .loop-i .inv .2) digit,

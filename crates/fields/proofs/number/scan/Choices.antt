@@ -5,7 +5,7 @@ use lib.ListN.{take}
 use Rattle.std.specs.shelf.Digits.{number}
 use Rattle.layout.specs.Bytes.{worthOf}
 use Rattle.layout.specs.Slots.{holds, Passes}
-use Rattle.fields.specs.Kinds.{numberSlot}
+use Rattle.fields.specs.Slots.{numberSlot}
 use Rattle.fields.proofs.number.scan.Given as given
 
 abbrev pub Inv-loop-i : given.InvT-loop-i

@@ -20,9 +20,8 @@ loop-i-again c =
     let k = c .args .start + (c .args .count - 1 - c .loop-i .i) in
     let here : c .args .start + (c .args .count - c .loop-i .i) ≡ k + 1 = omega arith in
     let next : c .args .start + (c .args .count - (c .loop-i .i + 1)) ≡ k = omega arith in
-    let held : k < length (c .args .room .now) = omega arith in
-    (
+    let held : k < length (c .args .room .now) = omega arith in (
       rw (c .loop-i .inv .0, here, next, digitBytes-more (c .args .base) (c .loop-i .i) (c .args .value), c .byte-in .ensures, c .loop-i .inv .1)
-      (set-before (c .args .room .now) _ k _ held),
+          (set-before (c .args .room .now) _ k _ held),
       rw (c .loop-i .inv .1, div-div-eq-div-mul, add-one, pow-suc),
     )

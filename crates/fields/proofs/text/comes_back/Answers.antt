@@ -8,7 +8,7 @@ use Rattle.layout.specs.Digits.{digitBytes}
 use Rattle.layout.specs.Slots.{over, scanSlot, spell, comesBack}
 use Rattle.layout.proofs.Writing.{length-digitBytes, scan-over}
 use Rattle.fields.specs.declared.padded.Text.{Text}
-use Rattle.fields.specs.Kinds.{textSlot}
+use Rattle.fields.specs.Slots.{textSlot}
 use Rattle.fields.proofs.text.comes_back.Needs as need
 
 -- what the walk over the written bytes found is what it finds in the number's own

@@ -22,8 +22,7 @@ add-full c = fits-bits 64 tt (push-fits 256 _ 8 _ 32 (c .loop-i .inv .1) (lit< t
 
 pub loop-i-again : need.loop-i-again
 loop-i-again c =
-    let more : 8 - (c .args .count - c .loop-i .i) + 1 ≡ 8 - (c .args .count - (c .loop-i .i + 1)) = omega arith in
-    (
+    let more : 8 - (c .args .count - c .loop-i .i) + 1 ≡ 8 - (c .args .count - (c .loop-i .i + 1)) = omega arith in (
       rw (c .loop-i .inv .0, ← replicate-more {X = ℕ} (c .loop-i .i) 32, numberAfter-append),
       rw (← more) (push-lt 256 _ _ 32 (c .loop-i .inv .1) (lit< tt)),
     )

@@ -12,7 +12,7 @@ use Rattle.layout.specs.Slots.{valueOf, keeps}
 use Rattle.layout.proofs.Digits.{push-lt}
 use Rattle.layout.proofs.Reading.{scan-stops, scan-passes}
 use Rattle.layout.proofs.Scanning.{passes-step, stops-here, stops-short}
-use Rattle.fields.specs.Kinds.{textSlot}
+use Rattle.fields.specs.Slots.{textSlot}
 use Rattle.fields.proofs.text.scan.Needs as need
 
 pub returns-then-line-i : need.returns-then-line-i

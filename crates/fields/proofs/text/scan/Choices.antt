@@ -3,7 +3,7 @@ use Prim.Native.Nat.{_^_, _<_}
 use lib.ListN.{take}
 use Rattle.std.specs.shelf.Digits.{number}
 use Rattle.layout.specs.Slots.{holds, afterSpace, Passes}
-use Rattle.fields.specs.Kinds.{textSlot}
+use Rattle.fields.specs.Slots.{textSlot}
 use Rattle.fields.proofs.text.scan.Given as given
 
 abbrev pub Inv-loop-i : given.InvT-loop-i

@@ -1,4 +1,4 @@
--- The slots of the kinds of fields.
+-- The slot that a field of digits, or a padded field, is.
 use Rattle.layout.specs.Slots.{Slot, number, text}
 use Rattle.fields.specs.declared.numeral.Number.{Number}
 use Rattle.fields.specs.declared.padded.Text.{Text}
