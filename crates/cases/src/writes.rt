@@ -36,7 +36,7 @@ pub fn show_fields(rt: &LibcRuntime) -> io::Result<()> {
         shares: 500,
         symbol: ABCD,
         price: 102_500,
-        display: Display::Shown,
+        display: Display::Quoted,
     };
     show(rt, &Message::AddShort(good), 0)?;
     show(

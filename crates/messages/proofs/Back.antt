@@ -10,7 +10,7 @@ use Rattle.messages.specs.declared.code.Side.the-variants.{Buy, Sell}
 use Rattle.messages.specs.declared.code.TradeSide.{TradeSide}
 use Rattle.messages.specs.declared.code.TradeSide.the-variants as trade
 use Rattle.messages.specs.declared.code.Display.{Display}
-use Rattle.messages.specs.declared.code.Display.the-variants.{Shown, Hidden}
+use Rattle.messages.specs.declared.code.Display.the-variants.{Quoted, Unquoted}
 use Rattle.messages.specs.declared.code.Customer.{Customer}
 use Rattle.messages.specs.declared.code.Customer.the-variants.{Retail, Blank}
 use Rattle.messages.specs.declared.message.Message.{Message}
@@ -24,7 +24,7 @@ abbrev sideOf : ℕ → Side
 sideOf x = cond (eqb x 66) Buy Sell
 
 abbrev displayOf : ℕ → Display
-displayOf x = cond (eqb x 89) Shown Hidden
+displayOf x = cond (eqb x 89) Quoted Unquoted
 
 abbrev customerOf : ℕ → Customer
 customerOf x = cond (eqb x 82) Retail Blank
@@ -37,8 +37,8 @@ trade-side-back : (x : TradeSide) → trade.Buy ≡ x
 trade-side-back trade.Buy = refl
 
 display-back : (x : Display) → displayOf (displayLetter x) ≡ x
-display-back Shown = refl
-display-back Hidden = refl
+display-back Quoted = refl
+display-back Unquoted = refl
 
 customer-back : (x : Customer) → customerOf (customerLetter x) ≡ x
 customer-back Retail = refl

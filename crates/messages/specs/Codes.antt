@@ -5,7 +5,7 @@ use Rattle.messages.specs.declared.code.Side.the-variants.{Buy, Sell}
 use Rattle.messages.specs.declared.code.TradeSide.{TradeSide}
 use Rattle.messages.specs.declared.code.TradeSide.the-variants as trade
 use Rattle.messages.specs.declared.code.Display.{Display}
-use Rattle.messages.specs.declared.code.Display.the-variants.{Shown, Hidden}
+use Rattle.messages.specs.declared.code.Display.the-variants.{Quoted, Unquoted}
 use Rattle.messages.specs.declared.code.Customer.{Customer}
 use Rattle.messages.specs.declared.code.Customer.the-variants.{Retail, Blank}
 
@@ -20,8 +20,8 @@ tradeSideLetter trade.Buy = 66
 
 -- Y and N
 abbrev pub displayLetter : Display → ℕ
-displayLetter Shown = 89
-displayLetter Hidden = 78
+displayLetter Quoted = 89
+displayLetter Unquoted = 78
 
 -- R and a space
 abbrev pub customerLetter : Customer → ℕ

@@ -15,11 +15,11 @@ pub enum TradeSide {
     Buy,
 }
 
-// Whether the order is displayed.
+// Whether the order is part of the exchange's quote on the consolidated tape.
 #[derive(Clone, Copy)]
 pub enum Display {
-    Shown,
-    Hidden,
+    Quoted,
+    Unquoted,
 }
 
 #[derive(Clone, Copy)]
@@ -75,16 +75,16 @@ pub impl Lettered for Display as DisplayLettered {
 
     fn of_byte(byte: u8) -> Option<Display> {
         match byte {
-            b'Y' => Some(Display::Shown),
-            b'N' => Some(Display::Hidden),
+            b'Y' => Some(Display::Quoted),
+            b'N' => Some(Display::Unquoted),
             _ => None,
         }
     }
 
     fn byte(&self) -> u8 {
         match self {
-            Display::Shown => b'Y',
-            Display::Hidden => b'N',
+            Display::Quoted => b'Y',
+            Display::Unquoted => b'N',
         }
     }
 }
