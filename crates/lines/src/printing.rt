@@ -2,7 +2,9 @@
 ghost use mathlib.Core.Path.{_≡_};
 ghost use mathlib.Core.List.{[]};
 ghost use Rattle.capture.specs.Held.{held};
+ghost use Rattle.messages.specs.Refusals.{LaidOut};
 ghost use Rattle.lines.specs.Counts.{more};
+ghost use Rattle.lines.specs.Evens.{Even};
 use crate::rewriting::comes_back;
 use crate::totals::Totals;
 use crate::totals::TotalsDisplay;
@@ -31,6 +33,7 @@ impl Listing {
     pub fn new(heap: Global) -> Listing
         ensures line { λ r. ⌜ held (r .line) ≡ [] ⌝ }
         ensures lines { λ r. ⌜ r .totals .lines ≡ 0 ⌝ }
+        ensures even { λ r. ⌜ Even (r .totals) ⌝ }
     {
         Listing {
             line: LineBuffer::new(),
@@ -40,7 +43,9 @@ impl Listing {
     }
 
     // Takes the next bytes of the capture, in which lines may end and one may begin.
-    pub fn take(&mut self, chunk: &[u8]) -> fmt::Result {
+    pub fn take(&mut self, chunk: &[u8]) -> fmt::Result
+        ensures { λ _. ⌜ (Even (now (self .entry) .totals) → Even (now (self .exit) .totals)) ⌝ }
+    {
         let mut rest = chunk;
         loop {
             let (piece, next) = split_line(rest);
@@ -54,7 +59,9 @@ impl Listing {
     }
 
     // The capture is at its end: a last line needs no line end.
-    pub fn finish(&mut self) -> fmt::Result {
+    pub fn finish(&mut self) -> fmt::Result
+        ensures { λ _. ⌜ (Even (now (self .entry) .totals) → Even (now (self .exit) .totals)) ⌝ }
+    {
         if !self.line.is_empty() {
             self.end_line()?;
         }
@@ -78,6 +85,7 @@ impl Listing {
     fn end_line(&mut self) -> fmt::Result
         ensures line { λ _. ⌜ held (now (self .exit) .line) ≡ [] ⌝ }
         ensures lines { λ _. ⌜ now (self .exit) .totals .lines ≡ more (now (self .entry) .totals .lines) ⌝ }
+        ensures even { λ _. ⌜ (Even (now (self .entry) .totals) → Even (now (self .exit) .totals)) ⌝ }
     {
         let line = self.line;
         self.line.clear();
@@ -90,6 +98,7 @@ impl Listing {
     fn list_message(&mut self, message: &Message, line: &[u8]) -> fmt::Result
         ensures line { λ _. ⌜ now (self .exit) .line ≡ now (self .entry) .line ⌝ }
         ensures lines { λ _. ⌜ now (self .exit) .totals .lines ≡ more (now (self .entry) .totals .lines) ⌝ }
+        ensures even { λ _. ⌜ (LaidOut (now (line .entry)) (now (message .entry)) → Even (now (self .entry) .totals) → Even (now (self .exit) .totals)) ⌝ }
     {
         self.totals.count_read(comes_back(message, line));
         let number = self.totals.lines;
@@ -100,6 +109,7 @@ impl Listing {
     fn list_refusal(&mut self, fault: &MessageFault) -> fmt::Result
         ensures line { λ _. ⌜ now (self .exit) .line ≡ now (self .entry) .line ⌝ }
         ensures lines { λ _. ⌜ now (self .exit) .totals .lines ≡ more (now (self .entry) .totals .lines) ⌝ }
+        ensures even { λ _. ⌜ (Even (now (self .entry) .totals) → Even (now (self .exit) .totals)) ⌝ }
     {
         self.totals.count_refused();
         let number = self.totals.lines;

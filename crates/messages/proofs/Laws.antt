@@ -11,7 +11,7 @@ use lib.ListN.{length, take, drop}
 use Rattle.std.specs.Results.{Cases}
 use Rattle.std.specs.declared.result.Result.{Result}
 use Rattle.std.specs.declared.result.Result.the-variants.{Ok, Err}
-use Rattle.std.proofs.shelf.Lists.{append-nil, drop-all, drop-drop, length-drop, take-rest}
+use Rattle.std.proofs.shelf.Lists.{append-nil, drop-all, drop-drop, length-drop, take-rest, take-at}
 use Rattle.std.proofs.shelf.Tests.{cases-bool, leb-true, leb-false}
 use Rattle.layout.specs.declared.fault.FieldFault.{FieldFault}
 use Rattle.layout.specs.declared.fault.FieldFault.the-variants.{Byte, Range}
@@ -157,3 +157,21 @@ put-over m place buf part fits e =
     let none : drop (length buf - place) (drop place buf) ≡ [] = drop-all (length buf - place) (drop place buf) (simp length-drop (omega arith)) in
     let now : part ≡ written m ++ drop (place + length (written m)) buf = e ∙ rw (take-rest buf place, whole, long, drop-drop) in
     rw (none, append-nil, now) (sym (over-within place (written m) buf (omega arith)))
+
+-- What stands at the front of a buffer after writing is a line of the message just where it is laid out so.
+module _ (m : Message) (buf after : List ℕ) where
+  pub same-line : (n : ℕ) → Writing m 0 buf after (Ok n) → (xs : List ℕ) → ((length xs ≡ n) × (xs ≡ take n after)) ↔ LaidOut xs m
+  same-line n w xs =
+      let done = w .line n refl in
+      let front : take n after ≡ written m = rw (done .3) (take-at (written m) (drop (0 + n) buf) n (sym (done .1))) in (
+        (λ h. subst (λ ys. LaidOut ys m) (sym (h .1 ∙ front)) (done .0)),
+        (λ l. let is = w .only xs l in (ap length is ∙ sym (done .1), is ∙ sym front)),
+      )
+
+  -- and a buffer longer than the lines of every kind has room for it
+  pub no-line : (e : MessageFault) → Writing m 0 buf after (Err e) → 64 ≤ length buf → (xs : List ℕ) → LaidOut xs m → ⊥
+  no-line e w room xs l =
+      let d = w .refused (numberOf e) (carriedOf e) .0 (refl, refl) in
+      let late = due-passed m 0 buf (laid-passes m 0 buf xs l) d .2 in
+      let most = row (typeOf m) .short in
+      omega arith

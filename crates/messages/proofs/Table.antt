@@ -25,16 +25,17 @@ pub record Row (t : MessageType) : Type 0 where
   -- the letter names the kind
   pub named : typeAmong types (letterOf t) ≡ Some t
   pub long : 9 ≤ lengthOf t
+  pub short : lengthOf t ≤ 64
 
 pub row : (t : MessageType) → Row t
-row SymbolClear = record { tiles = refl; named = refl; long = lit≤ tt }
-row AddShort = record { tiles = refl; named = refl; long = lit≤ tt }
-row AddLong = record { tiles = refl; named = refl; long = lit≤ tt }
-row OrderExecuted = record { tiles = refl; named = refl; long = lit≤ tt }
-row OrderCancel = record { tiles = refl; named = refl; long = lit≤ tt }
-row TradeShort = record { tiles = refl; named = refl; long = lit≤ tt }
-row TradeLong = record { tiles = refl; named = refl; long = lit≤ tt }
-row TradeBreak = record { tiles = refl; named = refl; long = lit≤ tt }
+row SymbolClear = record { tiles = refl; named = refl; long = lit≤ tt; short = lit≤ tt }
+row AddShort = record { tiles = refl; named = refl; long = lit≤ tt; short = lit≤ tt }
+row AddLong = record { tiles = refl; named = refl; long = lit≤ tt; short = lit≤ tt }
+row OrderExecuted = record { tiles = refl; named = refl; long = lit≤ tt; short = lit≤ tt }
+row OrderCancel = record { tiles = refl; named = refl; long = lit≤ tt; short = lit≤ tt }
+row TradeShort = record { tiles = refl; named = refl; long = lit≤ tt; short = lit≤ tt }
+row TradeLong = record { tiles = refl; named = refl; long = lit≤ tt; short = lit≤ tt }
+row TradeBreak = record { tiles = refl; named = refl; long = lit≤ tt; short = lit≤ tt }
 
 -- a message has a value for each field
 pub each : (m : Message) → Each (layoutOf (typeOf m)) (valuesOf m)
