@@ -37,6 +37,14 @@ pub impl Kind for AddShort as AddShortKind {
 
     ghost values = { addValues };
 
+    fn mark() -> u8 {
+        Self::LETTER
+    }
+
+    fn size() -> usize {
+        Self::LENGTH
+    }
+
     fn read(line: &[u8]) -> Result<AddOrder, FieldFault> {
         let (time, rest) = read_number(line, Self::LETTER, 0, TIME)?;
         let (_, rest) = read_mark(rest, Self::LETTER, 8)?;

@@ -40,6 +40,14 @@ pub impl Kind for AddLong as AddLongKind {
 
     ghost values = { attributedValues };
 
+    fn mark() -> u8 {
+        Self::LETTER
+    }
+
+    fn size() -> usize {
+        Self::LENGTH
+    }
+
     fn read(line: &[u8]) -> Result<AttributedAdd, FieldFault> {
         let (time, rest) = read_number(line, Self::LETTER, 0, TIME)?;
         let (_, rest) = read_mark(rest, Self::LETTER, 8)?;

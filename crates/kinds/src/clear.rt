@@ -28,6 +28,14 @@ pub impl Kind for SymbolClear as SymbolClearKind {
 
     ghost values = { clearValues };
 
+    fn mark() -> u8 {
+        Self::LETTER
+    }
+
+    fn size() -> usize {
+        Self::LENGTH
+    }
+
     fn read(line: &[u8]) -> Result<ClearSymbol, FieldFault> {
         let (time, rest) = read_number(line, Self::LETTER, 0, TIME)?;
         let (_, rest) = read_mark(rest, Self::LETTER, 8)?;

@@ -6,7 +6,7 @@ ghost use Rattle.std.specs.Results.{Cases};
 ghost use Rattle.std.specs.declared.result.Result.the-variants.{Ok, Err};
 ghost use Rattle.layout.specs.Fields.{readFields, checkFields, putFields};
 ghost use Rattle.messages.specs.declared.types.MessageType.{MessageType};
-ghost use Rattle.messages.specs.Layouts.{letterOf, layoutOf};
+ghost use Rattle.messages.specs.Layouts.{letterOf, lengthOf, layoutOf};
 use layout::fault::FieldFault;
 
 pub trait Kind {
@@ -21,6 +21,13 @@ pub trait Kind {
 
     // What a record says, field by field.
     ghost values: { Self·Record → List ℕ };
+
+    // The two constants are the row's.
+    fn mark() -> u8
+        ensures { λ r. ⌜ r ≡ letterOf row ⌝ };
+
+    fn size() -> usize
+        ensures { λ r. ⌜ r ≡ lengthOf row ⌝ };
 
     // The fields of a line, one after the other, or the first fault.
     fn read(line: &[u8]) -> Result<Self::Record, FieldFault>

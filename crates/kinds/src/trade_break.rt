@@ -25,6 +25,14 @@ pub impl Kind for TradeBreak as TradeBreakKind {
 
     ghost values = { breakValues };
 
+    fn mark() -> u8 {
+        Self::LETTER
+    }
+
+    fn size() -> usize {
+        Self::LENGTH
+    }
+
     fn read(line: &[u8]) -> Result<Break, FieldFault> {
         let (time, rest) = read_number(line, Self::LETTER, 0, TIME)?;
         let (_, rest) = read_mark(rest, Self::LETTER, 8)?;

@@ -9,6 +9,7 @@ use Rattle.std.specs.declared.result.Result.the-variants.{Ok, Err}
 use Rattle.layout.specs.declared.fault.FieldFault.{FieldFault}
 use Rattle.layout.specs.Slots.{Slot, width, Spells, keeps, Passes, Stops, inRange, valueOf, readSlot, checkSlot, spell, over}
 
+-- a field starts at an offset, and holds what its slot says
 pub record Field : Type 0 where
   pub offset : ℕ
   pub slot : Slot
@@ -60,14 +61,17 @@ abbrev pub thenRead : Result (ℕ × List ℕ) FieldFault → (List ℕ → Resu
 thenRead (Ok p) go = before (p .0) (go (p .1))
 thenRead (Err e) go = Err e
 
+-- the values of the fields, or the first fault
 abbrev pub readFields : ℕ → List Field → List ℕ → Result (List ℕ) FieldFault
 readFields letter [] xs = Ok []
 readFields letter (f ∷ fs) xs = thenRead (readSlot (f .slot) letter (f .offset) xs) (readFields letter fs)
 
+-- the first of two faults
 abbrev pub thenCheck : Result (Unit {0}) FieldFault → Result (Unit {0}) FieldFault → Result (Unit {0}) FieldFault
 thenCheck (Ok u) go = go
 thenCheck (Err e) go = Err e
 
+-- the first field that cannot be written, if there is one
 abbrev pub checkFields : ℕ → List Field → List ℕ → Result (Unit {0}) FieldFault
 checkFields letter [] vs = Ok tt
 checkFields letter (f ∷ fs) [] = Ok tt

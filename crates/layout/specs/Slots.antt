@@ -35,6 +35,7 @@ width (choice letters) = 1
 
 -- The bytes p spell the number v.
 
+-- each is a digit of the base, and together they are v, which is in range
 pub record SpellsNumber (base count low high : ℕ) (p : List ℕ) (v : ℕ) : Type 0 where
   pub size : length p ≡ count
   pub digits : All (λ x. worthOf x < base) p
@@ -42,6 +43,7 @@ pub record SpellsNumber (base count low high : ℕ) (p : List ℕ) (v : ℕ) : T
   pub least : low ≤ v
   pub most : v ≤ high
 
+-- a name of bytes of the class, and then spaces; v is their number, filled up with spaces
 pub record SpellsText (class : Class) (least w whole : ℕ) (p : List ℕ) (v : ℕ) : Type 0 where
   pub name : List ℕ
   pub spaces : ℕ
@@ -51,10 +53,12 @@ pub record SpellsText (class : Class) (least w whole : ℕ) (p : List ℕ) (v : 
   pub size : length p ≡ w
   pub value : numberOf 256 (p ++ replicate (whole - w) 32) ≡ v
 
+-- x is one of the letters
 abbrev pub isOneOf : List ℕ → ℕ → Bool
 isOneOf [] x = false
 isOneOf (l ∷ ls) x = eqb x l || isOneOf ls x
 
+-- one byte, which is one of the letters
 pub record SpellsChoice (letters : List ℕ) (p : List ℕ) (v : ℕ) : Type 0 where
   pub alone : p ≡ v ∷ []
   pub member : isOneOf letters v ≡ true
@@ -110,9 +114,11 @@ abbrev pub walked : Slot → List ℕ → Option ℕ → Result ℕ ℕ
 walked s xs (Some i) = Err i
 walked s xs None = Ok (valueOf s (take (width s) xs))
 
+-- the walk itself
 unfoldable pub scanSlot : Slot → List ℕ → Result ℕ ℕ
 scanSlot s xs = walked s xs (firstFailing (holds s xs) (width s))
 
+-- the field allows the number; only a field of digits has a range
 abbrev pub inRange : Slot → ℕ → Bool
 inRange (number base count low high) v = leb low v && leb v high
 inRange (text class least w whole) v = true
@@ -154,6 +160,7 @@ givable (number base count low high) v = leb low v && leb v high
 givable (text class least w whole) v = comesBack v (scanSlot (text class least w whole) (spell (text class least w whole) v))
 givable (choice letters) v = isOneOf letters v
 
+-- whether the field at that offset can be written
 abbrev pub checkSlot : Slot → ℕ → ℕ → ℕ → Result (Unit {0}) FieldFault
 checkSlot s letter offset v = cond (givable s v) (Ok tt) (Err (Range (origin letter offset)))
 

@@ -51,14 +51,14 @@ pub(crate) fn length_of(kind: MessageType) -> usize
     ensures { λ r. ⌜ r ≡ lengthOf kind ⌝ }
 {
     match kind {
-        MessageType::SymbolClear => SymbolClear::LENGTH,
-        MessageType::AddShort => AddShort::LENGTH,
-        MessageType::AddLong => AddLong::LENGTH,
-        MessageType::OrderExecuted => OrderExecuted::LENGTH,
-        MessageType::OrderCancel => OrderCancel::LENGTH,
-        MessageType::TradeShort => TradeShort::LENGTH,
-        MessageType::TradeLong => TradeLong::LENGTH,
-        MessageType::TradeBreak => TradeBreak::LENGTH,
+        MessageType::SymbolClear => SymbolClear::size(),
+        MessageType::AddShort => AddShort::size(),
+        MessageType::AddLong => AddLong::size(),
+        MessageType::OrderExecuted => OrderExecuted::size(),
+        MessageType::OrderCancel => OrderCancel::size(),
+        MessageType::TradeShort => TradeShort::size(),
+        MessageType::TradeLong => TradeLong::size(),
+        MessageType::TradeBreak => TradeBreak::size(),
     }
 }
 
