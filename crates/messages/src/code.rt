@@ -3,26 +3,26 @@ ghost use mathlib.Core.List.{[], _∷_};
 ghost use Rattle.messages.specs.Codes.{sideLetter, tradeSideLetter, displayLetter, customerLetter};
 use fields::letter::Lettered;
 
-#[derive(Clone, Copy)]
+#[derive(Clone, Copy, PartialEq, Eq, Debug)]
 pub enum Side {
     Buy,
     Sell,
 }
 
 // A trade's line says buy, whatever the side of the order that rested.
-#[derive(Clone, Copy)]
+#[derive(Clone, Copy, PartialEq, Eq, Debug)]
 pub enum TradeSide {
     Buy,
 }
 
 // Whether the order is part of the exchange's quote on the consolidated tape.
-#[derive(Clone, Copy)]
+#[derive(Clone, Copy, PartialEq, Eq, Debug)]
 pub enum Display {
     Quoted,
     Unquoted,
 }
 
-#[derive(Clone, Copy)]
+#[derive(Clone, Copy, PartialEq, Eq, Debug)]
 pub enum Customer {
     Retail,
     Blank,

@@ -1,5 +1,5 @@
 // The kinds of messages; each has a letter, byte 8 of its lines.
-#[derive(Clone, Copy)]
+#[derive(Clone, Copy, PartialEq, Eq, Debug)]
 pub enum MessageType {
     SymbolClear,
     AddShort,
