@@ -1,13 +1,15 @@
 -- What the reading and the writing call promise.
 use mathlib.Core.Path.{_≡_}
 use mathlib.Core.Logic.{_↔_}
-use mathlib.Core.List.{List, _++_}
+use mathlib.Core.List.{List, [], _∷_, _++_}
 use Prim.Native.Nat.{ℕ, _+_, _≤_}
 use lib.ListN.{length, take, drop}
 use Rattle.std.specs.declared.result.Result.{Result}
 use Rattle.std.specs.declared.result.Result.the-variants.{Ok, Err}
+use Rattle.layout.specs.Slots.{Spells}
 use Rattle.messages.specs.declared.fault.MessageFault.{MessageFault}
 use Rattle.messages.specs.declared.message.Message.{Message}
+use Rattle.messages.specs.Layouts.{shortSymbol, longSymbol}
 use Rattle.messages.specs.Lines.{readLine, told, written}
 use Rattle.messages.specs.Refusals.{LaidOut, Due, WriteDue, Refuses}
 
@@ -33,3 +35,7 @@ pub record Writing (m : Message) (place : ℕ) (buf after : List ℕ) (r : Resul
   pub kept : (e : MessageFault) → r ≡ Err e → after ≡ buf
   -- each refusal is given in its own case, and in that case only
   pub refused : (n : ℕ) (vs : List ℕ) → Refuses r n vs ↔ WriteDue m place (length buf) n vs
+
+-- A symbol has one number in its short and in its long form, and another symbol has another.
+abbrev pub SymbolsAgree : Type 0
+SymbolsAgree = (p q : List ℕ) (v w : ℕ) → Spells shortSymbol p v → Spells longSymbol q w → (v ≡ w) ↔ (q ≡ p ++ (32 ∷ 32 ∷ []))

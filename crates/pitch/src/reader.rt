@@ -3,7 +3,7 @@ ghost use mathlib.Core.Path.{_≡_};
 ghost use Rattle.std.specs.Results.{Cases};
 ghost use Rattle.std.specs.declared.result.Result.the-variants.{Ok, Err};
 ghost use Rattle.messages.specs.Lines.{readLine, told};
-ghost use Rattle.messages.specs.Promises.{Reading};
+ghost use Rattle.messages.specs.Promises.{Reading, SymbolsAgree};
 use crate::dispatch::length_of;
 use crate::dispatch::read_as;
 use crate::dispatch::type_of;
@@ -14,6 +14,7 @@ use messages::message::Message;
 pub fn read(line: &[u8]) -> Result<Message, MessageFault>
     ensures value { λ r. ⌜ Cases r (λ m. readLine (now (line .entry)) ≡ Ok (told m)) (λ e. readLine (now (line .entry)) ≡ Err e) ⌝ }
     ensures promise { λ r. ⌜ Reading (now (line .entry)) r ⌝ }
+    ensures symbols { λ _. ⌜ SymbolsAgree ⌝ }
 {
     read_line(line)
 }

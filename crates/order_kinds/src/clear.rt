@@ -1,7 +1,6 @@
 // Symbol Clear: s.
 ghost use Rattle.messages.specs.declared.types.MessageType.the-variants.{SymbolClear as kind};
 ghost use Rattle.messages.specs.Values.{clearValues};
-use crate::kind::Kind;
 use fields::letter::put_mark;
 use fields::letter::read_mark;
 use fields::number::check_number;
@@ -13,6 +12,7 @@ use fields::text::check_text;
 use fields::text::put_text;
 use fields::text::read_text;
 use layout::fault::FieldFault;
+use messages::kind::Kind;
 use messages::record::ClearSymbol;
 
 pub struct SymbolClear;

@@ -1,7 +1,6 @@
 // Add Order, the short form: A.
 ghost use Rattle.messages.specs.declared.types.MessageType.the-variants.{AddShort as kind};
 ghost use Rattle.messages.specs.Values.{addValues};
-use crate::kind::Kind;
 use fields::letter::put_letter;
 use fields::letter::put_mark;
 use fields::letter::read_letter;
@@ -22,6 +21,7 @@ use messages::code::Display;
 use messages::code::DisplayLettered;
 use messages::code::Side;
 use messages::code::SideLettered;
+use messages::kind::Kind;
 use messages::record::AddOrder;
 
 pub struct AddShort;

@@ -1,7 +1,6 @@
 // Trade Break: B.
 ghost use Rattle.messages.specs.declared.types.MessageType.the-variants.{TradeBreak as kind};
 ghost use Rattle.messages.specs.Values.{breakValues};
-use crate::kind::Kind;
 use fields::letter::put_mark;
 use fields::letter::read_mark;
 use fields::number::check_number;
@@ -10,6 +9,7 @@ use fields::number::read_number;
 use fields::numeral::ID;
 use fields::numeral::TIME;
 use layout::fault::FieldFault;
+use messages::kind::Kind;
 use messages::record::Break;
 
 pub struct TradeBreak;

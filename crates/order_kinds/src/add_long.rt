@@ -1,7 +1,6 @@
 // Add Order, the long form: d.
 ghost use Rattle.messages.specs.declared.types.MessageType.the-variants.{AddLong as kind};
 ghost use Rattle.messages.specs.Values.{attributedValues};
-use crate::kind::Kind;
 use fields::letter::put_letter;
 use fields::letter::put_mark;
 use fields::letter::read_letter;
@@ -25,6 +24,7 @@ use messages::code::Display;
 use messages::code::DisplayLettered;
 use messages::code::Side;
 use messages::code::SideLettered;
+use messages::kind::Kind;
 use messages::record::AttributedAdd;
 
 pub struct AddLong;

@@ -1,7 +1,6 @@
 // Order Executed: E.
 ghost use Rattle.messages.specs.declared.types.MessageType.the-variants.{OrderExecuted as kind};
 ghost use Rattle.messages.specs.Values.{executedValues};
-use crate::kind::Kind;
 use fields::letter::put_mark;
 use fields::letter::read_mark;
 use fields::number::check_number;
@@ -11,6 +10,7 @@ use fields::numeral::ID;
 use fields::numeral::SHARES;
 use fields::numeral::TIME;
 use layout::fault::FieldFault;
+use messages::kind::Kind;
 use messages::record::Execution;
 
 pub struct OrderExecuted;

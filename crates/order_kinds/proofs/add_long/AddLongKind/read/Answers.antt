@@ -1,6 +1,6 @@
 use mathlib.Core.Path.{refl}
 use Rattle.layout.proofs.Steps.{then-ok}
-use Rattle.kinds.proofs.add_long.AddLongKind.read.Needs as need
+use Rattle.order_kinds.proofs.add_long.AddLongKind.read.Needs as need
 
 pub returns : need.returns
 returns c =
