@@ -17,7 +17,7 @@ use messages::number::number_of;
 use pitch::reader::read;
 
 // The sum with what the line says, or why it is no message.
-pub fn add_line(sum: u64, line: &[u8]) -> u64
+pub(crate) fn add_line(sum: u64, line: &[u8]) -> u64
     ensures { λ r. ⌜ r ≡ afterLine sum (readLine (now (line .entry))) ⌝ }
 {
     match read(line) {

@@ -1,12 +1,24 @@
-use mathlib.Core.Path.{sym, _∙_}
-use native.Mathlib.Omega.{arith}
-use Rattle.speed.proofs.Walk.{line-ends, no-line}
+use mathlib.Core.Path.{_≡_, sym, ap, _∙_}
+use mathlib.Core.List.{[]}
+use Prim.Native.Nat.{_<_}
+use lib.ListN.{length}
+use Rattle.std.specs.declared.option.Option.the-variants.{Some, None}
+use Rattle.std.proofs.shelf.Results.{cases-at-some, cases-at-none}
+use Rattle.capture.specs.Splits.{beforeEnd, afterEnd}
+use Rattle.speed.specs.Checksum.{afterBytes}
+use Rattle.speed.proofs.Walk.{onward, walk-line}
 use Rattle.speed.proofs.read_capture.Needs as need
 
-pub loop-end-again : need.loop-end-again
-loop-end-again c =
-    let found = c .in-Some .ensures tt in
-    (omega (arith, found .1), rw (c .add-line-sum .ensures) (c .loop-end .inv .1 ∙ line-ends _ _ _ (c .in-Some .end) (found .0) (found .1) (found .2) (found .3)))
+pub returns-in-rest : need.returns-in-rest
+returns-in-rest c =
+    let rest = c .loop-more .rest .now in
+    let none = cases-at-none (afterEnd rest ≡ None) (λ x. (afterEnd rest ≡ Some (x .now)) × (length (x .now) < length rest)) (c .in-rest .is) (c .split-line .ensures .second) in
+    sym (c .loop-more .inv ∙ walk-line (c .loop-more .sum) rest ∙ ap (onward (c .loop-more .sum) (beforeEnd rest)) none)
 
-pub returns : need.returns
-returns c = sym (c .loop-end .inv .1 ∙ no-line _ _ _ (c .loop-end .inv .0) (c .in-rest .ensures tt))
+pub loop-more-again : need.loop-more-again
+loop-more-again c =
+    let rest = c .loop-more .rest .now in
+    let some = cases-at-some (afterEnd rest ≡ None) (λ x. (afterEnd rest ≡ Some (x .now)) × (length (x .now) < length rest)) (c .in-Some .more) (c .in-Some .is) (c .split-line .ensures .second) .0 in
+    let added = rw (c .split-line .ensures .first) at (c .add-line-sum .ensures) in
+    c .loop-more .inv ∙ walk-line (c .loop-more .sum) rest ∙ ap (onward (c .loop-more .sum) (beforeEnd rest)) some
+    ∙ ap (λ n. afterBytes n [] (c .in-Some .more .now)) (sym added)
