@@ -1,14 +1,14 @@
 -- Digits in any base: a number's digits give it back, and digits are those of their number.
 use mathlib.Core.Path.{_≡_, refl, sym, _∙_, ap, subst}
-use mathlib.Core.List.{List, [], _∷_, _++_}
+use mathlib.Core.List.{List, [], _∷_}
 use Prim.Native.Nat.{ℕ, zero, suc, _+_, _*_, _/_, _%_, _^_, _<_, _≤_}
-use native.Mathlib.Nat.{add-zero, zero-add, zero-mul, mul-one, pow-zero, mod-lt, mod-eq-of-lt, mod-one, pow-suc, one-le-pow, mul-assoc, mul-comm, add-mul, add-assoc, le-trans, pow-le-pow-right}
+use native.Mathlib.Nat.{add-zero, zero-add, zero-mul, mul-one, pow-zero, mod-lt, mod-eq-of-lt, mod-one, pow-suc, one-le-pow, mul-assoc, mul-comm, add-mul, add-assoc}
 use native.Mathlib.Numerals.{add-one}
 use native.Mathlib.Omega.{arith}
 use lib.Arith.{digits-lt, digits-div, digits-mod, mod-mul}
 use lib.ListN.{length}
 use Rattle.std.specs.shelf.Digits.{number, numberAfter, Under}
-use Rattle.std.proofs.shelf.Digits.{numberAfter-append, number-lt}
+use Rattle.std.proofs.shelf.Digits.{number-lt}
 use Rattle.layout.specs.Digits.{digits}
 
 -- one digit more stays below the next power

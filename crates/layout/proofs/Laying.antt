@@ -1,9 +1,9 @@
 -- The laws of a layout, by induction over its fields: reading answers what is laid out so, or the first fault.
 use mathlib.Core.Path.{_≡_, refl, sym, _∙_, ap, subst}
-use mathlib.Core.Bool.{Bool, true, false, cond, _&&_}
+use mathlib.Core.Bool.{Bool, true, cond, _&&_}
 use mathlib.Core.Logic.{⊎-elim}
-use mathlib.Core.List.{List, [], _∷_, _++_}
-use Prim.Native.Nat.{ℕ, zero, suc, _+_, _-_, _<_, _≤_}
+use mathlib.Core.List.{List, [], _∷_}
+use Prim.Native.Nat.{ℕ, _+_, _-_, _≤_}
 use native.Mathlib.Omega.{arith}
 use lib.Dec.{eqb, ltb}
 use lib.ListN.{length, take, drop}
@@ -13,8 +13,7 @@ use Rattle.std.proofs.shelf.Lists.{take-all, length-take-le, length-drop, drop-
 use Rattle.std.proofs.shelf.Tests.{and-parts, and-right, eqb-true, lt-ltb, cases-bool}
 use Rattle.layout.specs.declared.fault.FieldFault.{FieldFault}
 use Rattle.layout.specs.declared.fault.FieldFault.the-variants.{Byte, Range}
-use Rattle.layout.specs.declared.fault.Spot.{Spot}
-use Rattle.layout.specs.Slots.{Slot, width, Spells, keeps, holds, Passes, Stops, valueOf, inRange, scanSlot, ranged, readSlot, spot, origin}
+use Rattle.layout.specs.Slots.{Slot, width, Spells, keeps, Passes, valueOf, inRange, scanSlot, ranged, readSlot, spot, origin}
 use Rattle.layout.specs.Fields.{Field, part, Laid, BreaksAt, OutOfRange, FirstFault, byte, range, later, before, thenRead, readFields}
 use Rattle.layout.proofs.Reading.{Found, scan-found, scan-part, scan-passes, scan-stops}
 use Rattle.layout.proofs.Sound.{sound}

@@ -1,21 +1,20 @@
 -- The laws of writing a layout, by induction over its fields.
-use mathlib.Core.Path.{_≡_, refl, sym, _∙_, ap, subst}
-use mathlib.Core.Bool.{Bool, true, false, cond, _&&_}
+use mathlib.Core.Path.{_≡_, refl, sym, _∙_, ap}
+use mathlib.Core.Bool.{true, false}
 use mathlib.Core.Logic.{⊎-elim}
 use mathlib.Core.List.{List, [], _∷_, _++_, append-assoc}
-use Prim.Native.Nat.{ℕ, zero, suc, _+_, _-_, _<_, _≤_}
-use native.Mathlib.Nat.{add-assoc}
+use Prim.Native.Nat.{ℕ, _+_, _-_, _≤_}
 use native.Mathlib.Omega.{arith}
 use lib.ListN.{length, take, drop, take-append-drop}
 use Rattle.std.specs.declared.result.Result.{Result}
 use Rattle.std.specs.declared.result.Result.the-variants.{Ok, Err}
-use Rattle.std.proofs.shelf.Lists.{take-all, take-at, drop-at, length-append, length-drop, length-take-le, drop-drop, drop-append-le, take-take}
+use Rattle.std.proofs.shelf.Lists.{take-at, drop-at, length-append, drop-drop}
 use Rattle.std.proofs.shelf.Tests.{eqb-true, cases-bool, both-ways}
 use Rattle.layout.specs.declared.fault.FieldFault.{FieldFault}
 use Rattle.layout.specs.declared.fault.FieldFault.the-variants.{Byte, Range}
 use Rattle.layout.specs.Slots.{Slot, width, Spells, givable, spell, over, checkSlot, origin}
 use Rattle.layout.specs.Fields.{Field, part, Laid, FirstUngiven, here, later, checkFields, thenCheck, lineOf, putFields}
-use Rattle.layout.proofs.Laying.{tiled, Next, next, tiled-le}
+use Rattle.layout.proofs.Laying.{tiled, next, tiled-le}
 use Rattle.layout.proofs.Spelling.{Lawful}
 use Rattle.layout.proofs.Writing.{take-over, drop-over, length-over}
 

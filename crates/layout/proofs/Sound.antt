@@ -1,6 +1,6 @@
 -- What the laws ask of a slot: the base has digits and letters enough, the range fits the digits, and a text its width.
-use mathlib.Core.Bool.{Bool, true, false, _&&_}
-use Prim.Native.Nat.{ℕ, _^_}
+use mathlib.Core.Bool.{Bool, true, _&&_}
+use Prim.Native.Nat.{_^_}
 use lib.Dec.{leb, ltb}
 use Rattle.layout.specs.Slots.{Slot, number, text, choice}
 

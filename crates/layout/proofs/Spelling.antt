@@ -1,13 +1,12 @@
 -- The laws of a slot: what spells a value is read as it, what is read spells it, and writing the value spells it again.
 use mathlib.Core.Path.{_≡_, refl, sym, _∙_, ap, subst}
-use mathlib.Core.Bool.{Bool, true, false, cond, _&&_}
-use mathlib.Core.Logic.{⊎-elim}
-use mathlib.Core.List.{List, [], _∷_, _++_, map}
-use Prim.Native.Nat.{ℕ, zero, suc, _+_, _-_, _*_, _/_, _%_, _^_, _<_, _≤_}
+use mathlib.Core.Bool.{true, false, _&&_}
+use mathlib.Core.List.{List, [], _∷_, map}
+use Prim.Native.Nat.{ℕ, _+_, _-_, _*_, _/_, _^_, _<_, _≤_}
 use native.Mathlib.Nat.{mod-eq-of-lt}
 use native.Mathlib.Omega.{arith}
 use lib.Arith.{digits-div}
-use lib.Dec.{eqb, leb, ltb, lit≤}
+use lib.Dec.{leb, ltb, lit≤}
 use lib.ListN.{length, getD, take, replicate}
 use Rattle.std.specs.shelf.Digits.{number as numberOf, Under}
 use Rattle.std.specs.shelf.Lists.{All}
@@ -19,11 +18,11 @@ use Rattle.std.proofs.shelf.Lists.{take-all, length-append, length-replicate, l
 use Rattle.std.proofs.shelf.Tests.{and-parts, and-from, leb-true, le-leb, ltb-true, lt-ltb, eqb-true, eq-eqb, both-ways}
 use Rattle.std.proofs.shelf.Ways.{tells}
 use Rattle.layout.specs.declared.class.Class.{Class}
-use Rattle.layout.specs.Bytes.{worthOf, byteIn, isOf}
+use Rattle.layout.specs.Bytes.{worthOf, byteIn}
 use Rattle.layout.specs.Digits.{digits, digitBytes}
-use Rattle.layout.specs.Slots.{Slot, number, text, choice, width, Spells, SpellsNumber, SpellsText, SpellsChoice, keeps, holds, Passes, valueOf, inRange, scanSlot, spell, givable, comesBack, isOneOf}
+use Rattle.layout.specs.Slots.{Slot, number, text, choice, width, Spells, SpellsNumber, SpellsText, keeps, holds, Passes, valueOf, inRange, scanSlot, spell, givable, comesBack}
 use Rattle.layout.proofs.Digits.{under-digits, length-digits, number-digits, digits-number, numberAfter-is}
-use Rattle.layout.proofs.Padding.{class-bound, padded-keeps, split-of, under-padded}
+use Rattle.layout.proofs.Padding.{padded-keeps, split-of, under-padded}
 use Rattle.layout.proofs.Reading.{Found, scan-found, scan-passes}
 use Rattle.layout.proofs.Sound.{sound}
 use Rattle.layout.proofs.Writing.{length-digitBytes}

@@ -17,7 +17,7 @@ use Rattle.messages.specs.declared.message.Message.{Message}
 use Rattle.messages.specs.declared.message.Message.the-variants as message
 use Rattle.messages.specs.declared.types.MessageType.{MessageType}
 use Rattle.messages.specs.declared.types.MessageType.the-variants.{SymbolClear, AddShort, AddLong, OrderExecuted, OrderCancel, TradeShort, TradeLong, TradeBreak}
-use Rattle.messages.specs.Codes.{sideLetter, tradeSideLetter, displayLetter, customerLetter}
+use Rattle.messages.specs.Codes.{sideLetter, displayLetter, customerLetter}
 use Rattle.messages.specs.Lines.{told}
 
 abbrev sideOf : ℕ → Side

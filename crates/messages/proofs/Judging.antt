@@ -1,18 +1,18 @@
 -- Reading a line answers the message that it is laid out as, or the refusal that is due; and the other way round.
-use mathlib.Core.Path.{_≡_, refl, sym, _∙_, ap, subst}
-use mathlib.Core.Bool.{true, false, cond}
+use mathlib.Core.Path.{_≡_, refl, sym, _∙_, ap}
+use mathlib.Core.Bool.{true, false}
 use mathlib.Core.Logic.{⊎-elim}
 use mathlib.Core.List.{List, [], _∷_}
-use Prim.Native.Nat.{ℕ, _<_, _≤_}
+use Prim.Native.Nat.{ℕ, _≤_}
 use native.Mathlib.Omega.{arith}
 use lib.Dec.{eqb, ltb}
-use lib.ListN.{length, getD, take, drop}
+use lib.ListN.{length, getD, drop}
 use Rattle.std.specs.declared.option.Option.{Option}
 use Rattle.std.specs.declared.option.Option.the-variants.{Some, None}
 use Rattle.std.specs.declared.result.Result.{Result}
 use Rattle.std.specs.declared.result.Result.the-variants.{Ok, Err}
 use Rattle.std.proofs.shelf.Lists.{getD-take, getD-drop}
-use Rattle.std.proofs.shelf.Tests.{cases-bool, cases-eq, eqb-true, eqb-false, eq-eqb, ne-eqb, ltb-true, ltb-false, lt-ltb, le-ltb, or-cases, both-ways}
+use Rattle.std.proofs.shelf.Tests.{cases-bool, eqb-true, eqb-false, eq-eqb, ne-eqb, ltb-true, ltb-false, lt-ltb, le-ltb, or-cases, both-ways}
 use Rattle.layout.specs.declared.fault.FieldFault.{FieldFault}
 use Rattle.layout.specs.declared.fault.FieldFault.the-variants.{Byte, Range}
 use Rattle.layout.specs.Fields.{Field, Laid, FirstFault, byte, range, later, readFields}
@@ -24,7 +24,7 @@ use Rattle.messages.specs.declared.types.MessageType.{MessageType}
 use Rattle.messages.specs.Faults.{numberOf, carriedOf}
 use Rattle.messages.specs.Layouts.{letterOf, lengthOf, layoutOf}
 use Rattle.messages.specs.Lines.{types, typeAmong, told, tagged, readRow, readAs, readKind, readLine}
-use Rattle.messages.specs.Refusals.{LaidOut, Due, cut, unknown, misfit, faulty, Refuses}
+use Rattle.messages.specs.Refusals.{LaidOut, Due, cut, unknown, misfit, faulty}
 use Rattle.messages.specs.Values.{typeOf, valuesOf}
 use Rattle.messages.proofs.Table.{row, letter-of, type-of, no-type}
 

@@ -1,6 +1,5 @@
 -- The promises of reading and writing, of whatever answers as the definitions do.
 use mathlib.Core.Path.{_≡_, refl, sym, _∙_, ap, subst}
-use mathlib.Core.Bool.{true, false, cond}
 use mathlib.Core.Logic.{⊎-elim, _↔_}
 use mathlib.Core.List.{List, [], _∷_, _++_}
 use Prim.Native.Nat.{ℕ, _+_, _-_, _<_, _≤_}
@@ -25,12 +24,12 @@ use Rattle.messages.specs.Faults.{numberOf, carriedOf}
 use Rattle.messages.specs.Layouts.{letterOf, lengthOf, layoutOf}
 use Rattle.messages.specs.Lines.{told, readLine, written, checked, fitted, placed}
 use Rattle.messages.specs.Promises.{Reading, Writing}
-use Rattle.messages.specs.Refusals.{LaidOut, Due, WriteDue, range, buffer, Refuses}
+use Rattle.messages.specs.Refusals.{LaidOut, Due, WriteDue, range, buffer}
 use Rattle.messages.specs.Values.{typeOf, valuesOf}
 use Rattle.layout.proofs.Putting.{line-laid, length-line, put-line, laid-checks, check-ungiven, Checked, checked as check-answers}
 use Rattle.layout.proofs.Writing.{over-within}
 use Rattle.messages.proofs.Back.{told-apart}
-use Rattle.messages.proofs.Judging.{Judged, judged, laid-read, Refused, due-refused}
+use Rattle.messages.proofs.Judging.{Judged, judged, laid-read, due-refused}
 use Rattle.messages.proofs.Table.{row, each}
 
 never : {X Y : Type 0} {x : X} {y : Y} → _≡_ {A = Result X Y} (Ok x) (Err y) → ⊥

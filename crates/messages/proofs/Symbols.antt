@@ -1,18 +1,16 @@
 -- The two forms of a symbol.
 use mathlib.Core.Path.{_≡_, sym, _∙_, ap, subst}
-use mathlib.Core.List.{List, [], _∷_, _++_}
-use Prim.Native.Nat.{ℕ, _<_, _+_}
+use mathlib.Core.List.{[], _∷_, _++_}
+use Prim.Native.Nat.{_<_, _+_}
 use native.Mathlib.Omega.{arith}
 use lib.Dec.{lit≤, lit<}
 use lib.ListN.{length}
 use Rattle.std.specs.shelf.Digits.{number, Under}
-use Rattle.std.specs.shelf.Lists.{All}
 use Rattle.std.proofs.shelf.Elements.{all-append}
 use Rattle.std.proofs.shelf.Lists.{append-nil, length-append}
 use Rattle.layout.specs.declared.class.Class.the-variants.{Graphic}
 use Rattle.layout.proofs.Digits.{same-digits}
 use Rattle.layout.proofs.Padding.{under-padded}
-use Rattle.messages.specs.Layouts.{shortSymbol, longSymbol}
 use Rattle.messages.specs.Promises.{SymbolsAgree}
 
 pub symbols-agree : SymbolsAgree

@@ -2,7 +2,6 @@ use native.Mathlib.Omega.{arith}
 use borrow.Author.Tests.{true-eqb, false-eqb}
 use lib.ListN.{length}
 use mathlib.Core.Path.{_≡_}
-use Prim.Native.Nat.{_<_}
 use Rattle.layout.proofs.Reading.{scan-empty, scan-letter}
 use Rattle.fields.proofs.letter.scan.Needs as need
 

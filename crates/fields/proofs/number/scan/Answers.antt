@@ -1,17 +1,12 @@
 use mathlib.Core.Path.{refl, sym, _∙_, ap}
 use native.Mathlib.Nat.{pow-zero}
 use native.Mathlib.Omega.{arith}
-use Prim.Native.Nat.{_+_, _*_, _^_, _<_, _≤_}
 use mir.Facts.{fits-bits}
 use mathlib.Core.Path.{_≡_}
-use mathlib.Core.Bool.{true, false}
-use mathlib.Core.List.{map}
-use lib.ListN.{getD, length, take}
 use Rattle.std.proofs.shelf.Tests.{lt-ltb, le-ltb}
-use Rattle.std.specs.shelf.Digits.{number}
 use Rattle.std.specs.declared.result.Result.the-variants.{Ok}
 use Rattle.layout.specs.Bytes.{worthOf}
-use Rattle.layout.specs.Slots.{valueOf, keeps}
+use Rattle.layout.specs.Slots.{valueOf}
 use Rattle.layout.proofs.Digits.{push-lt}
 use Rattle.layout.proofs.Reading.{scan-stops, scan-passes}
 use Rattle.layout.proofs.Scanning.{number-more, push-fits, passes-none, passes-step, stops-here, stops-short}

@@ -1,8 +1,5 @@
-use mathlib.Core.Path.{_≡_, sym, ap, _∙_}
-use Prim.Native.Nat.{_+_, _<_, _≤_}
+use mathlib.Core.Path.{sym, _∙_}
 use native.Mathlib.Omega.{arith}
-use lib.ListN.{length}
-use Rattle.layout.specs.Digits.{digitBytes}
 use Rattle.layout.proofs.Writing.{length-digitBytes, over-within, over-past}
 use Rattle.fields.proofs.put.put_digits.Needs as need
 

@@ -1,11 +1,9 @@
-use mathlib.Core.Path.{_≡_, refl, sym, ap, _∙_}
-use mathlib.Core.List.{[], _∷_, _++_}
-use Prim.Native.Nat.{_+_, _-_, _/_, _%_, _^_, _<_}
+use mathlib.Core.Path.{_≡_, sym}
+use Prim.Native.Nat.{_+_, _-_, _<_}
 use native.Mathlib.Nat.{div-div-eq-div-mul, pow-suc, pow-zero, div-one, sub-zero}
 use native.Mathlib.Numerals.{add-one}
 use native.Mathlib.Omega.{arith}
-use lib.ListN.{length, take, drop, set, take-append-drop}
-use Rattle.layout.specs.Digits.{digitBytes}
+use lib.ListN.{length, take-append-drop}
 use Rattle.layout.proofs.Writing.{digitBytes-none, digitBytes-more, set-before}
 use Rattle.fields.proofs.put.put_within.Needs as need
 

@@ -1,10 +1,9 @@
 use mathlib.Core.Path.{_≡_, refl, ap, _∙_}
 use mathlib.Core.List.{List}
-use Prim.Native.Nat.{ℕ, _≤_, _-_, _/_, _^_}
+use Prim.Native.Nat.{ℕ, _-_}
 use native.Mathlib.Omega.{arith}
 use lib.ListN.{length}
 use Rattle.std.specs.declared.result.Result.{Result}
-use Rattle.layout.specs.Digits.{digitBytes}
 use Rattle.layout.specs.Slots.{over, scanSlot, spell, comesBack}
 use Rattle.layout.proofs.Writing.{length-digitBytes, scan-over}
 use Rattle.fields.specs.declared.padded.Text.{Text}

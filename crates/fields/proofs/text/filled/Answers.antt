@@ -1,11 +1,8 @@
-use mathlib.Core.Path.{_≡_, sym, ap, _∙_}
-use mathlib.Core.List.{_∷_, []}
-use Prim.Native.Nat.{ℕ, _+_, _-_, _*_, _^_, _<_}
+use mathlib.Core.Path.{_≡_}
+use Prim.Native.Nat.{ℕ, _+_, _-_, _<_}
 use native.Mathlib.Omega.{arith}
 use lib.Dec.{lit<, lit≤}
-use lib.ListN.{replicate}
 use mir.Facts.{fits-bits}
-use Rattle.std.specs.shelf.Digits.{numberAfter}
 use Rattle.std.proofs.shelf.Digits.{numberAfter-append}
 use Rattle.std.proofs.shelf.Lists.{replicate-more}
 use Rattle.layout.proofs.Digits.{push-lt}

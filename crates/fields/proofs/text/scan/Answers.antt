@@ -1,14 +1,13 @@
-use mathlib.Core.Path.{_≡_, refl, sym, ap, _∙_}
-use mathlib.Core.Bool.{true, false}
-use Prim.Native.Nat.{_+_, _-_, _^_, _<_, _≤_}
+use mathlib.Core.Path.{_≡_, sym, ap, _∙_}
+use Prim.Native.Nat.{_-_, _<_}
 use native.Mathlib.Nat.{pow-le-pow-right}
 use native.Mathlib.Numerals.{add-one}
 use native.Mathlib.Omega.{arith}
 use lib.Dec.{lit<}
-use lib.ListN.{getD, length, take}
+use lib.ListN.{take}
 use Rattle.std.proofs.shelf.Digits.{number-more, numberAfter-append}
 use Rattle.std.specs.declared.result.Result.the-variants.{Ok}
-use Rattle.layout.specs.Slots.{valueOf, keeps}
+use Rattle.layout.specs.Slots.{valueOf}
 use Rattle.layout.proofs.Digits.{push-lt}
 use Rattle.layout.proofs.Reading.{scan-stops, scan-passes}
 use Rattle.layout.proofs.Scanning.{passes-step, stops-here, stops-short}

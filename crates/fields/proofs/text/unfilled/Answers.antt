@@ -1,4 +1,3 @@
-use mathlib.Core.Path.{ap, _∙_}
 use native.Mathlib.Nat.{div-div-eq-div-mul, pow-suc}
 use native.Mathlib.Numerals.{add-one}
 use Rattle.fields.proofs.text.unfilled.Needs as need
