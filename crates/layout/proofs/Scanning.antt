@@ -11,7 +11,7 @@ use lib.ListN.{length, getD, take}
 use Rattle.std.specs.shelf.Digits.{number as numberOf}
 use Rattle.std.proofs.shelf.Digits.{number-push}
 use Rattle.std.proofs.shelf.Lists.{map-more, getD-take, length-take-le}
-use Rattle.std.proofs.shelf.Tests.{and-from, and-left, and-right, and-parts, lt-ltb, le-ltb, ltb-true}
+use Rattle.std.proofs.shelf.Tests.{and-from, and-left, and-right, lt-ltb, le-ltb}
 use Rattle.layout.specs.Slots.{Slot, number, text, choice, keeps, holds, Passes, Stops}
 use Rattle.layout.proofs.Digits.{push-lt}
 use Rattle.layout.proofs.Search.{passes-more}
@@ -39,10 +39,6 @@ module _ (s : Slot) (xs : List ℕ) where
 
   pub stops-short : (n i : ℕ) → i < n → Passes (holds s xs) i → length xs ≤ i → Stops (holds s xs) n i
   stops-short n i lt h e = (lt, h, and-left (ltb i (length xs)) (keeps s xs i) (le-ltb i (length xs) e))
-
-  pub passes-length : (n : ℕ) → Passes (holds s xs) n → n ≤ length xs
-  passes-length zero h = omega arith
-  passes-length (suc n) h = ltb-true n (length xs) (and-parts (ltb n (length xs)) (keeps s xs n) (h n (omega arith)) .0)
 
 -- a byte keeps the rule or not by the field's own bytes
 keeps-part : (s : Slot) (xs : List ℕ) (n j : ℕ) → j < n → keeps s xs j ≡ keeps s (take n xs) j
