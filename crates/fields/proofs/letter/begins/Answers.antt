@@ -7,5 +7,5 @@ returns c =
     let some : length c.args.line.now ≡ 0 → ⊥ = false-eqb _ 0 c.if-is_empty.ensures in
     scan-mark c.args.letter c.args.line.now (omega arith)
 
-pub returns-then-is-empty : goal.returns-then-is-empty
-returns-then-is-empty c = scan-empty (c.args.letter ∷ []) c.args.line.now (true-eqb _ 0 c.if-is-empty.ensures)
+pub returns-then-is_empty : goal.returns-then-is_empty
+returns-then-is_empty c = scan-empty (c.args.letter ∷ []) c.args.line.now (true-eqb _ 0 c.if-is_empty.ensures)

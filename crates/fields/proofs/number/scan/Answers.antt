@@ -21,13 +21,13 @@ returns-then-worth-field c =
     sym (scan-stops _ _ _ (stops-here (numberSlot c.args.field) c.args.line.now _ _ c.loop-i-test.true c.loop-i.invariant.0
     (le-ltb _ _ (rw c.look-worth.ensures at c.if-worth-field.true))))
 
-pub overflow-mul-value : goal.overflow-mul-value
-overflow-mul-value c =
+pub overflow_mul-value : goal.overflow_mul-value
+overflow_mul-value c =
     let below = push-fits _ _ c.args.field.count _ _ c.loop-i.invariant.2 c.if-worth-field.false c.loop-i-test.true c.args.field.fits in
     Fits-bits 64 tt (omega arith)
 
-pub overflow-add-value : goal.overflow-add-value
-overflow-add-value c = Fits-bits 64 tt (push-fits _ _ c.args.field.count _ _ c.loop-i.invariant.2 c.if-worth-field.false c.loop-i-test.true c.args.field.fits)
+pub overflow_add-value : goal.overflow_add-value
+overflow_add-value c = Fits-bits 64 tt (push-fits _ _ c.args.field.count _ _ c.loop-i.invariant.2 c.if-worth-field.false c.loop-i-test.true c.args.field.fits)
 
 pub loop-i-preserved : goal.loop-i-preserved
 loop-i-preserved c =

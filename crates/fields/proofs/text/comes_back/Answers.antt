@@ -1,4 +1,4 @@
-use Rattle.std.proofs.Common.{◌≡◌, ℕ, ◌-◌, List, length, Result, refl, ap, ◌∙◌, arith}
+use Rattle.std.proofs.Common.{◌≡◌, ℕ, List, length, Result, refl, ap, ◌∙◌, arith}
 use Rattle.layout.specs.Slots.{over, scanSlot, spell, comesBack}
 use Rattle.layout.proofs.Writing.{length-digitBytes, scan-over}
 use Rattle.fields.specs.declared.padded.Text.{Text}

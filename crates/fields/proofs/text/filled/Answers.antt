@@ -1,4 +1,4 @@
-use Rattle.std.proofs.Common.{◌≡◌, ℕ, ◌+◌, ◌-◌, ◌<◌, arith, lit<, lit≤}
+use Rattle.std.proofs.Common.{◌≡◌, ℕ, ◌+◌, ◌-◌, arith, lit<, lit≤}
 use mir.Facts.{Fits-bits}
 use Rattle.std.proofs.lemmas.Int.Digits.{number_after_append}
 use Rattle.std.proofs.lemmas.List.{replicate_more}
@@ -6,13 +6,13 @@ use Rattle.layout.proofs.Digits.{push-lt}
 use Rattle.layout.proofs.Scanning.{push-fits}
 use Rattle.fields.proofs.text.filled.Goals as goal
 
-pub overflow-mul-full : goal.overflow-mul-full
-overflow-mul-full c =
+pub overflow_mul-full : goal.overflow_mul-full
+overflow_mul-full c =
     let below = push-fits 256 _ 8 _ 32 c.loop-i.invariant.1 (lit< tt) (omega arith) (lit≤ tt) in
     Fits-bits 64 tt (omega arith)
 
-pub overflow-add-full : goal.overflow-add-full
-overflow-add-full c = Fits-bits 64 tt (push-fits 256 _ 8 _ 32 c.loop-i.invariant.1 (lit< tt) (omega arith) (lit≤ tt))
+pub overflow_add-full : goal.overflow_add-full
+overflow_add-full c = Fits-bits 64 tt (push-fits 256 _ 8 _ 32 c.loop-i.invariant.1 (lit< tt) (omega arith) (lit≤ tt))
 
 pub loop-i-preserved : goal.loop-i-preserved
 loop-i-preserved c =

@@ -1,4 +1,4 @@
-use Rattle.std.proofs.Common.{◌≡◌, ◌-◌, ◌<◌, take, Ok, sym, ap, ◌∙◌, add-one, arith, lit<}
+use Rattle.std.proofs.Common.{◌≡◌, ◌-◌, take, Ok, sym, ap, ◌∙◌, add-one, arith, lit<}
 use native.Mathlib.Nat.{pow-le-pow_right}
 use Rattle.std.proofs.lemmas.Int.Digits.{number_more, number_after_append}
 use Rattle.layout.specs.Slots.{value_of}
@@ -19,7 +19,7 @@ pub loop-i-preserved : goal.loop-i-preserved
 loop-i-preserved c = (
   passes-step (textSlot c.args.field) c.args.line.now _ c.loop-i.invariant.0 c.if-line-i.false (rw (← c.loop-i.invariant.3) (sym c.if-not-fits.ensures)),
   rw (number_more 256 _ _ c.if-line-i.false, ← c.loop-i.invariant.1),
-  push-lt 256 _ _ _ c.loop-i.invariant.2 (c.ok.line c.loop-i.i).fits,
+  push-lt 256 _ _ _ c.loop-i.invariant.2 (c.type_inv.line c.loop-i.i).fits,
   rw add-one,
 )
 
