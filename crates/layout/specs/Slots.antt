@@ -1,7 +1,7 @@
 -- What a field holds: which bytes spell which value, and how it is read, checked and spelled.
 use Rattle.std.specs.Prelude.{◌≡◌, ℕ, zero, suc, ◌+◌, ◌-◌, ◌/◌, ◌^◌, ◌<◌, ◌≤◌, Bool, true, false, cond, not, ◌&&◌, ◌||◌, List, [], ◌∷◌, ◌++◌, map, length, take, drop, replicate, Some, None, Ok, Err, Option, Result, ◌==◌, nat_le, nat_lt, slice_index}
 use Rattle.std.specs.Int.Digits.{number_from_digits as number_of}
-use Rattle.std.specs.List.{AllByRecursion as All}
+use Rattle.std.specs.List.{AllByRecursion}
 use Rattle.layout.specs.declared.class.Class.{Class}
 use Rattle.layout.specs.declared.fault.Spot.{Spot}
 use Rattle.layout.specs.declared.fault.FieldFault.{FieldFault}
@@ -29,7 +29,7 @@ width (choice letters) = 1
 -- each is a digit of the base, and together they are v, which is in range
 pub record SpellsNumber (base count low high : ℕ) (p : List ℕ) (v : ℕ) : Type 0 where
   pub size : length p ≡ count
-  pub digits : All (λ x. worthOf x < base) p
+  pub digits : AllByRecursion (λ x. worthOf x < base) p
   pub value : number_of base (map worthOf p) ≡ v
   pub least : low ≤ v
   pub most : v ≤ high
@@ -39,7 +39,7 @@ pub record SpellsText (class : Class) (least w whole : ℕ) (p : List ℕ) (v : 
   pub name : List ℕ
   pub spaces : ℕ
   pub split : p ≡ name ++ replicate spaces 32
-  pub inside : All (λ x. is_of class x ≡ true) name
+  pub inside : AllByRecursion (λ x. is_of class x ≡ true) name
   pub enough : least ≤ length name
   pub size : length p ≡ w
   pub value : number_of 256 (p ++ replicate (whole - w) 32) ≡ v

@@ -1,7 +1,7 @@
 // Values that a line has as one letter.
 ghost use Rattle.std.specs.Prelude.{[], ◌∷◌};
 ghost use Rattle.messages.specs.Codes.{sideLetter, tradeSideLetter, displayLetter, customerLetter};
-ghost use Rattle.std.proofs.Common.{rules};
+ghost use Rattle.messages.specs.Letters.{side_member, trade_side_member, display_member, customer_member};
 
 use fields::letter::Lettered;
 
@@ -35,7 +35,7 @@ impl Lettered for Side {
 
     ghost written = { sideLetter };
 
-    ghost member = { Prim.search rules };
+    ghost member = { side_member };
 
     fn of_byte(byte: u8) -> Option<Side> {
         match byte {
@@ -58,7 +58,7 @@ impl Lettered for TradeSide {
 
     ghost written = { tradeSideLetter };
 
-    ghost member = { Prim.search rules };
+    ghost member = { trade_side_member };
 
     fn of_byte(byte: u8) -> Option<TradeSide> {
         match byte {
@@ -79,7 +79,7 @@ impl Lettered for Display {
 
     ghost written = { displayLetter };
 
-    ghost member = { Prim.search rules };
+    ghost member = { display_member };
 
     fn of_byte(byte: u8) -> Option<Display> {
         match byte {
@@ -102,7 +102,7 @@ impl Lettered for Customer {
 
     ghost written = { customerLetter };
 
-    ghost member = { Prim.search rules };
+    ghost member = { customer_member };
 
     fn of_byte(byte: u8) -> Option<Customer> {
         match byte {
