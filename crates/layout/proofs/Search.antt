@@ -1,5 +1,5 @@
 -- The first place at which a test fails: what it says of the places, and when it is which.
-use Rattle.std.proofs.Common.{◌≡◌, ℕ, zero, suc, ◌<◌, Bool, true, ◌⊎◌, Some, None, Option, refl, ap, ◌∙◌, ⊎_elim, arith}
+use Rattle.std.proofs.Common.{◌≡◌, ℕ, zero, suc, ◌<◌, Bool, true, Some, None, Option, refl, ap, ◌∙◌, ⊎_elim, arith}
 use Rattle.std.proofs.lemmas.Bool.{cases_eq, cases_order, cases_Bool, both_ways}
 use Rattle.layout.specs.Slots.{or_else, firstFailing, Passes, Stops}
 
