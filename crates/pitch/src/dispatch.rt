@@ -70,7 +70,7 @@ pub(crate) fn read_as(kind: MessageType, line: &[u8]) -> Result<Message, Message
 
 // The record of that kind in the line.
 fn read_kind<K: Kind>(line: &[u8]) -> Result<K::Record, FieldFault>
-    ensures { MatchResult result (λ c. readRow row line.now ≡ Ok (values c)) (λ e. readRow row line.now ≡ Err e) }
+    ensures { MatchResult result (λ c. readRow K.Kind.row line.now ≡ Ok (K.values c)) (λ e. readRow K.Kind.row line.now ≡ Err e) }
 {
     K::read(line)
 }
