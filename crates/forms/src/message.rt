@@ -5,8 +5,8 @@ use messages::message::Message;
 use messages::record::{AddOrder, AttributedAdd, Break, Cancel, ClearSymbol, Execution, Trade};
 use std::fmt;
 
-#[derive(Drop)]
 // The form of a message.
+#[derive(Drop)]
 pub struct Shown<'a>(pub &'a Message);
 
 impl fmt::Display for Shown<'_> {
