@@ -3,4 +3,4 @@ use Rattle.lines.proofs.rewriting.begins.Goals as goal
 use Rattle.std.proofs.lemmas.Bool.Decides.{Decides-eqb}
 
 pub returns : goal.returns
-returns c = slice_eq-Decides Decides-eqb _ _ _ c.starts-with.ensures.value
+returns c = slice_eq-Decides Decides-eqb _ _ _ c.starts_with.ensures.value

@@ -6,7 +6,7 @@ use Rattle.lines.proofs.rewriting.comes_back.Goals as goal
 pub returns-in-Ok : goal.returns-in-Ok
 returns-in-Ok c =
     let same = same_line c.args.message.now _ _ c.in-Ok.size c.in-Ok.ensures.promise c.args.line.now in
-    let test = c.is-front.ensures in
+    let test = c.is_front.ensures in
     (λ e. same.0 (test.0 e), λ l. test.1 (same.1 l))
 
 pub returns-in-Err : goal.returns-in-Err
