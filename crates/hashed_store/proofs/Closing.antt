@@ -1,12 +1,11 @@
 -- One step of closing a hole, and the end of it.
-use Rattle.std.proofs.Common.{◌≡◌, ℕ, ◌<◌, ◌≤◌, List, length, set, sym, refl, ap, ◌∙◌, arith, length-set, get_or-set_other, get_or-set_same}
-use Rattle.store.specs.Lists.{placed}
+use Rattle.std.proofs.Common.{◌≡◌, ℕ, ◌<◌, ◌≤◌, List, length, set, sym, refl, ◌∙◌, arith, length-set, get_or-set_other, get_or-set_same}
 use Rattle.hashed_store.specs.declared.slot.Slot.{Slot}
 use Rattle.hashed_store.specs.declared.slot.Slot.TheVariants.{Empty, Held}
-use Rattle.hashed_store.specs.Rounds.{around, offset}
-use Rattle.hashed_store.specs.Slots.{held, sorted, slot_at, strayed, AllMet, NoHole, HoleAt}
+use Rattle.hashed_store.specs.Rounds.{offset}
+use Rattle.hashed_store.specs.Slots.{held, sorted, slot_at, strayed}
 use Rattle.hashed_store.specs.Looks.{Over}
-use Rattle.hashed_store.specs.Holes.{OverHole, NoneOver, Kept, Holed, Filled}
+use Rattle.hashed_store.specs.Holes.{OverHole, NoneOver, Kept, Holed}
 use Rattle.hashed_store.proofs.Sorted.{rising-sorted}
 use Rattle.hashed_store.proofs.Held.{taken_out, put_in}
 use Rattle.hashed_store.proofs.Meeting.{met-moved, met-closed, none_over}

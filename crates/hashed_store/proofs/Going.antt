@@ -1,11 +1,11 @@
 -- Going through all slots.
-use Rattle.std.proofs.Common.{◌≡◌, ℕ, suc, ◌+◌, ◌-◌, ◌<◌, ◌≤◌, ltb, leb, List, [], ◌∷◌, ◌++◌, length, take, drop, set, Some, None, Option, sym, refl, ap, ◌∙◌, subst, ⊎_elim, add-one, arith, drop-cons, take-suc-set}
+use Rattle.std.proofs.Common.{◌≡◌, ℕ, suc, ◌+◌, ◌-◌, ◌<◌, ◌≤◌, List, [], ◌∷◌, ◌++◌, length, take, drop, set, Some, None, Option, sym, refl, ap, ◌∙◌, subst, ⊎_elim, add-one, arith, drop-cons, take-suc-set}
 use Rattle.std.proofs.lemmas.List.{drop_all}
 use Rattle.std.proofs.lemmas.Bool.{cases_lt, lt-ltb, le-ltb, le-leb, lt-leb}
 use Rattle.store.specs.Lists.{firstFrom, placed}
 use Rattle.hashed_store.specs.declared.slot.Slot.{Slot}
 use Rattle.hashed_store.specs.declared.slot.Slot.TheVariants.{Empty, Held}
-use Rattle.hashed_store.specs.Slots.{held, heldIn, sorted, slot_at, recordIn, nearer, nearest}
+use Rattle.hashed_store.specs.Slots.{held, sorted, slot_at, recordIn, nearer, nearest}
 
 module _ {X : Type 0} (key : X → ℕ) where
   passed : (k : ℕ) (r : X) (o : Option X) → key r < k → nearer key k r o ≡ o

@@ -1,8 +1,7 @@
 -- What slots hold, before and after one of them is written.
-use Rattle.std.proofs.Common.{◌≡◌, ℕ, zero, suc, ◌+◌, ◌<◌, ◌≤◌, List, [], ◌∷◌, ◌++◌, length, get_or, drop, set, sym, refl, ap, ◌∙◌, append_assoc, arith, length-append, get_or-set_same, set-set}
-use mathlib.Core.List.{Permᴰ}
-use Rattle.store.specs.Lists.{Each, placed, lookup, without, replaced}
-use Rattle.store.proofs.Each.{Absent, each-join, each-front, each_back}
+use Rattle.std.proofs.Common.{◌≡◌, ℕ, zero, suc, ◌<◌, ◌≤◌, List, [], ◌∷◌, ◌++◌, length, set, sym, refl, ap, ◌∙◌, append_assoc, arith, length-append}
+use Rattle.store.specs.Lists.{Each, placed}
+use Rattle.store.proofs.Each.{Absent, each-front, each_back}
 use Rattle.hashed_store.specs.declared.slot.Slot.{Slot}
 use Rattle.hashed_store.specs.declared.slot.Slot.TheVariants.{Empty, Held}
 use Rattle.hashed_store.specs.Slots.{heldIn, held, sorted, Apart, slot_at}

@@ -1,11 +1,11 @@
 -- Every record stays where a search from its home meets it, whatever is put in, taken out or moved into a hole.
-use Rattle.std.proofs.Common.{◌≡◌, ℕ, ◌+◌, ◌-◌, ◌%◌, ◌<◌, ◌≤◌, ◌≢◌, ◌⊎◌, List, [], ◌∷◌, length, set, sym, refl, ap, ◌∙◌, subst, inl, inr, ⊎_elim, mod-lt, arith, length-set, get_or-set_other, get_or-set_same}
+use Rattle.std.proofs.Common.{◌≡◌, ℕ, ◌+◌, ◌-◌, ◌<◌, ◌≤◌, ◌≢◌, ◌⊎◌, List, length, set, sym, ap, ◌∙◌, subst, inl, inr, ⊎_elim, mod-lt, arith, length-set, get_or-set_other, get_or-set_same}
 use Rattle.std.proofs.lemmas.Bool.{cases_eq, cases_lt}
 use Rattle.store.proofs.Each.{Absent}
 use Rattle.hashed_store.specs.declared.slot.Slot.{Slot}
 use Rattle.hashed_store.specs.declared.slot.Slot.TheVariants.{Empty, Held}
 use Rattle.hashed_store.specs.Rounds.{around, offset}
-use Rattle.hashed_store.specs.Slots.{held, slot_at, home_of, strayed, Met, AllMet, NoHole, HoleAt, Other, Passed, NotOver, Short}
+use Rattle.hashed_store.specs.Slots.{held, slot_at, home_of, strayed, Met, AllMet, NoHole, HoleAt, Passed, NotOver, Short}
 use Rattle.hashed_store.proofs.Rounds.{around-below, offset-below, around-offset, offset-around, offset-rest, offset-back, around-on, offset-other, offset-self}
 use Rattle.hashed_store.proofs.Held.{each-held}
 

@@ -1,8 +1,8 @@
 -- From how a search ended to what is held, and from slots written to records in the order of their keys.
-use Rattle.std.proofs.Common.{◌≡◌, ℕ, suc, ◌+◌, ◌<◌, ◌≤◌, true, false, leb, ◌⊎◌, List, [], ◌∷◌, length, set, is_some, Some, None, Ok, Err, Option, sym, refl, ap, ◌∙◌, subst, inl, inr, ⊎_elim, arith, length-set, get_or-set_same, set-set}
+use Rattle.std.proofs.Common.{◌≡◌, ℕ, suc, ◌<◌, ◌≤◌, true, false, leb, ◌⊎◌, List, [], ◌∷◌, length, set, is_some, Some, None, Ok, Err, Option, sym, refl, ap, ◌∙◌, subst, inl, inr, ⊎_elim, arith, length-set, get_or-set_same, set-set}
 use Rattle.std.proofs.lemmas.Bool.{cases_lt, lt-ltb, le-ltb, le-leb, lt-leb}
 use Rattle.store.specs.Lists.{lookup, holds, placed, replaced, without}
-use Rattle.store.specs.Models.{removing, emptied}
+use Rattle.store.specs.Models.{removing}
 use Rattle.store.specs.declared.refusal.ReplaceRefusal.TheVariants.{Missing}
 use Rattle.store.specs.declared.refusal.InsertRefusal.TheVariants.{Taken as Occupied, Full}
 use Rattle.store.proofs.Each.{Absent}
@@ -11,11 +11,11 @@ use Rattle.store.proofs.Placed.{lookup-placed, without-placed, replaced-placed}
 use Rattle.hashed_store.specs.declared.slot.Slot.{Slot}
 use Rattle.hashed_store.specs.declared.slot.Slot.TheVariants.{Empty, Held}
 use Rattle.hashed_store.specs.Rounds.{around}
-use Rattle.hashed_store.specs.Slots.{held, recordIn, sorted, Apart, slot_at, home_of, AllMet, NoHole, Passed, Other}
+use Rattle.hashed_store.specs.Slots.{held, recordIn, sorted, Apart, slot_at, home_of, Passed, Other}
 use Rattle.hashed_store.specs.Looks.{HasKey}
 use Rattle.hashed_store.specs.Ways.{WentHere, WentToGap}
 use Rattle.hashed_store.specs.Holes.{Kept, Holed, Filled}
-use Rattle.hashed_store.specs.Places.{rows_of, modelOf, span_of, PutIn, NotPut, Exchanged, Out, TakenKey, NoKey, Removed, Cleared}
+use Rattle.hashed_store.specs.Places.{rows_of, modelOf, span_of, PutIn, NotPut, Exchanged, Out, NoKey, Removed, Cleared}
 use Rattle.hashed_store.proofs.Sorted.{each-sorted, rising-sorted, length-sorted}
 use Rattle.hashed_store.proofs.Held.{taken_out, put_in, held-fewer, held-full, held-each}
 use Rattle.hashed_store.proofs.Rounds.{around-offset, offset-below}

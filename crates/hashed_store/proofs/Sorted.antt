@@ -2,7 +2,7 @@
 use Rattle.std.proofs.Common.{◌≡◌, ℕ, suc, List, [], ◌∷◌, ◌++◌, length, sym, refl, ap, ◌∙◌}
 use mathlib.Core.List.{Permᴰ}
 use Rattle.store.specs.Lists.{Each, Rising, placed}
-use Rattle.store.proofs.Each.{Absent, each-join, each-front, each_back, each-so}
+use Rattle.store.proofs.Each.{Absent, each-join, each-front, each_back}
 use Rattle.store.proofs.Placed.{each_placed, rising-placed, permuted-placed, length-placed, placed-apart}
 use Rattle.hashed_store.specs.Slots.{sorted, Apart}
 

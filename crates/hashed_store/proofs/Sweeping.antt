@@ -1,11 +1,11 @@
 -- Sweeping the slots, one picked record after another.
 use Rattle.std.proofs.Common.{◌≡◌, ℕ, suc, ◌<◌, ◌≤◌, Bool, true, false, List, [], ◌∷◌, map, length, sym, refl, ap, ◌∙◌, arith}
 use Rattle.tally.specs.Joining.{joinedAll}
-use Rattle.store.specs.Lists.{Each, those, others, placed}
+use Rattle.store.specs.Lists.{Each, those, others}
 use Rattle.store.proofs.Sweeps.{takings-none, takings-placed, others-placed, others-all}
 use Rattle.hashed_store.specs.declared.slot.Slot.{Slot}
 use Rattle.hashed_store.specs.declared.slot.Slot.TheVariants.{Held}
-use Rattle.hashed_store.specs.Slots.{held, sorted, slot_at}
+use Rattle.hashed_store.specs.Slots.{held, slot_at}
 use Rattle.hashed_store.specs.Holes.{Kept}
 use Rattle.hashed_store.specs.Places.{rows_of, Out}
 use Rattle.hashed_store.specs.Sweeps.{Sweeping}

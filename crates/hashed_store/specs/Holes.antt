@@ -2,9 +2,9 @@
 use Rattle.std.specs.Prelude.{◌≡◌, ℕ, ◌<◌, ◌≤◌, ◌⊎◌, List, length, Some, None, Option}
 use Rattle.store.specs.Lists.{Rising}
 use Rattle.hashed_store.specs.declared.slot.Slot.{Slot}
-use Rattle.hashed_store.specs.declared.slot.Slot.TheVariants.{Empty, Held}
+use Rattle.hashed_store.specs.declared.slot.Slot.TheVariants.{Empty}
 use Rattle.hashed_store.specs.Rounds.{around, offset}
-use Rattle.hashed_store.specs.Slots.{held, sorted, Apart, slot_at, strayed, AllMet, NoHole, HoleAt, Short}
+use Rattle.hashed_store.specs.Slots.{held, sorted, Apart, slot_at, AllMet, NoHole, HoleAt, Short}
 use Rattle.hashed_store.specs.Looks.{Over}
 
 -- a record that can move into the hole h

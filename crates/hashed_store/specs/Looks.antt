@@ -1,10 +1,9 @@
 -- What the inner functions of a hashed store answer.
-use Rattle.std.specs.Prelude.{◌≡◌, ℕ, ◌<◌, ◌≤◌, List, length}
+use Rattle.std.specs.Prelude.{◌≡◌, ℕ, ◌≤◌}
 use Rattle.hashed_store.specs.declared.slot.Slot.{Slot}
 use Rattle.hashed_store.specs.declared.slot.Slot.TheVariants.{Empty, Held}
 use Rattle.hashed_store.specs.declared.look.Finding.{Finding}
 use Rattle.hashed_store.specs.declared.look.Finding.TheVariants.{Vacant, Match, Other as Another}
-use Rattle.hashed_store.specs.Rounds.{around, offset}
 use Rattle.hashed_store.specs.Slots.{strayed, Other, NotOver}
 
 -- the slot holds a record with the key k

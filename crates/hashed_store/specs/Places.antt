@@ -1,11 +1,11 @@
 -- What putting in, exchanging and taking out do to the slots, and to the records in the order of their keys.
-use Rattle.std.specs.Prelude.{◌≡◌, ℕ, suc, ◌+◌, ◌<◌, ◌≤◌, cond, List, length, Some, None, Ok, Err, Option, Result, nat_lt}
+use Rattle.std.specs.Prelude.{◌≡◌, ℕ, suc, ◌+◌, ◌<◌, cond, List, length, Some, None, Ok, Err, Option, Result, nat_lt}
 use Rattle.store.specs.Lists.{lookup, placed}
 use Rattle.store.specs.Models.{Model, insertSays, inserted, replaceSays, replacing, removing, emptied}
 use Rattle.store.specs.declared.refusal.InsertRefusal.{InsertRefusal}
 use Rattle.store.specs.declared.refusal.ReplaceRefusal.{ReplaceRefusal}
 use Rattle.hashed_store.specs.declared.slot.Slot.{Slot}
-use Rattle.hashed_store.specs.declared.slot.Slot.TheVariants.{Empty, Held}
+use Rattle.hashed_store.specs.declared.slot.Slot.TheVariants.{Held}
 use Rattle.hashed_store.specs.Slots.{held, sorted, slot_at}
 use Rattle.hashed_store.specs.Holes.{Kept}
 

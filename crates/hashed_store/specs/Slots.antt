@@ -1,5 +1,5 @@
 -- What the slots of a hashed store hold, and how they are kept.
-use Rattle.std.specs.Prelude.{◌≡◌, ℕ, ◌%◌, ◌<◌, ◌≤◌, cond, List, [], ◌∷◌, ◌++◌, length, Some, None, Option, ◌≢◌, nat_lt, slice_index_or}
+use Rattle.std.specs.Prelude.{◌≡◌, ℕ, ◌%◌, ◌<◌, ◌≤◌, cond, List, [], ◌∷◌, ◌++◌, Some, None, Option, ◌≢◌, nat_lt, slice_index_or}
 use Rattle.store.specs.Lists.{Each, placed}
 use Rattle.hashed_store.specs.declared.slot.Slot.{Slot}
 use Rattle.hashed_store.specs.declared.slot.Slot.TheVariants.{Empty, Held}

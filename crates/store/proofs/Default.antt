@@ -1,12 +1,10 @@
 -- Sweeping by going from key to key: the records below the key are done, those at or above it still to come.
-use Rattle.std.proofs.Common.{◌≡◌, ℕ, suc, ◌+◌, ◌-◌, ◌^◌, ◌<◌, ◌≤◌, Bool, true, false, List, [], ◌∷◌, ◌++◌, map, length, Some, None, sym, refl, ap, ◌∙◌, subst, ⊎_elim, append_assoc, append-nil, arith, length-append}
-use mathlib.Core.List.{map-append}
-use Rattle.std.proofs.lemmas.Bool.{cases_Bool}
+use Rattle.std.proofs.Common.{◌≡◌, ℕ, ◌+◌, ◌^◌, ◌<◌, ◌≤◌, Bool, true, false, List, [], ◌∷◌, ◌++◌, map, length, Some, sym, refl, ap, ◌∙◌, append_assoc, append-nil, arith, length-append}
 use Rattle.tally.specs.Joining.{joinedAll}
 use Rattle.tally.proofs.Laws.{joined-more}
 use Rattle.store.specs.Lists.{Each, Rising, firstFrom, without, those, others}
-use Rattle.store.specs.Models.{Model, holding, sweeping, removing}
-use Rattle.store.proofs.Each.{Lower, Higher, Absent, each-join, each-so, absent-lower}
+use Rattle.store.specs.Models.{Model, sweeping, removing}
+use Rattle.store.proofs.Each.{Lower, Higher, each-join, each-so, absent-lower}
 use Rattle.store.proofs.Keyed.{from_at, without_at, higher-back}
 use Rattle.store.proofs.Sweeps.{those-append, others-append, each-others}
 

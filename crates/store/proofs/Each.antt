@@ -1,6 +1,5 @@
 -- What holds of each record of a list, of its parts and of lists made of it.
 use Rattle.std.proofs.Common.{◌≡◌, ℕ, ◌<◌, List, [], ◌∷◌, ◌++◌, arith}
-use mathlib.Core.List.{Permᴰ}
 use Rattle.store.specs.Lists.{Each}
 
 module _ {X : Type 0} (P : X → Type 0) where

@@ -1,8 +1,8 @@
 -- What generic code over any store comes to.
-use Rattle.std.proofs.Common.{◌≡◌, ℕ, suc, ◌+◌, ◌^◌, ◌<◌, ◌≤◌, min, Bool, true, false, eqb, leb, List, [], ◌∷◌, ◌++◌, length, take, drop, set, is_some, Some, None, Ok, Err, sym, refl, ap, ◌∙◌, ⊎_elim, append-nil, add-one, arith, length-append, take-suc-set, take_at}
+use Rattle.std.proofs.Common.{◌≡◌, ℕ, false, eqb, leb, List, [], ◌∷◌, length, Ok, ap, ⊎_elim, arith}
 use Rattle.std.proofs.lemmas.Bool.{cases_Bool, eqb-false}
-use Rattle.store.specs.Clients.{foundIfSo, insertedFound, Listed}
-use Rattle.store.specs.Lists.{Rising, lookup, holds}
+use Rattle.store.specs.Clients.{insertedFound}
+use Rattle.store.specs.Lists.{lookup, holds}
 use Rattle.store.specs.Models.{Model, insertSays, inserted}
 use Rattle.store.proofs.Each.{Absent}
 use Rattle.store.proofs.Placed.{lookup-placed}

@@ -1,8 +1,8 @@
 -- Lists of records by key, cut where a key stands or would stand: the part in front, the record, the part behind.
-use Rattle.std.proofs.Common.{◌≡◌, ℕ, ◌<◌, ◌≤◌, true, false, eqb, ltb, leb, List, [], ◌∷◌, ◌++◌, is_some, Some, None, sym, refl, ap, ◌∙◌, arith}
+use Rattle.std.proofs.Common.{◌≡◌, ℕ, ◌<◌, ◌≤◌, true, false, List, [], ◌∷◌, ◌++◌, is_some, Some, None, refl, ap, ◌∙◌, arith}
 use Rattle.std.proofs.lemmas.Bool.{ne_eqb, eq-eqb, lt-ltb, le-ltb, le-leb, lt-leb}
-use Rattle.store.specs.Lists.{Each, Rising, lookup, holds, firstFrom, placed, replaced, without}
-use Rattle.store.proofs.Each.{Absent, Lower, Higher, each-join, each-front, each_back, each-so, absent-lower, absent-higher, higher-more}
+use Rattle.store.specs.Lists.{Rising, lookup, holds, firstFrom, placed, replaced, without}
+use Rattle.store.proofs.Each.{Absent, Lower, Higher, each-join, each-front, each_back}
 
 module _ {X : Type 0} (key : X → ℕ) where
   pub lookup_absent : (k : ℕ) (xs : List X) → Absent key k xs → lookup key k xs ≡ None

@@ -1,5 +1,5 @@
 -- Going from key to key, and writing what is found into a row.
-use Rattle.std.proofs.Common.{◌≡◌, ℕ, suc, ◌+◌, ◌^◌, ◌<◌, ◌≤◌, min, false, List, [], ◌∷◌, ◌++◌, length, take, drop, set, sym, refl, ap, ◌∙◌, add-one, arith, length-set, drop-drop, take-suc-set, take_at, drop-set-lt}
+use Rattle.std.proofs.Common.{◌≡◌, ℕ, ◌+◌, ◌^◌, ◌<◌, ◌≤◌, min, false, List, [], ◌∷◌, ◌++◌, length, take, drop, set, sym, refl, ap, ◌∙◌, add-one, arith, drop-drop, take-suc-set, take_at, drop-set-lt}
 use Rattle.store.specs.Clients.{Listed}
 use Rattle.store.specs.Lists.{Rising}
 use Rattle.store.specs.Models.{Model}

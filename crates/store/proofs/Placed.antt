@@ -1,11 +1,10 @@
 -- Records put in by key one after another, in any order.
-use Rattle.std.proofs.Common.{◌≡◌, ℕ, suc, ◌<◌, ◌≤◌, true, false, cond, ◌&&◌, eqb, ltb, leb, List, [], ◌∷◌, ◌++◌, length, Some, None, Option, sym, refl, ap, ◌∙◌, ⊎_elim, arith}
+use Rattle.std.proofs.Common.{◌≡◌, ℕ, suc, ◌<◌, ◌≤◌, List, [], ◌∷◌, length, Some, sym, refl, ap, ⊎_elim, arith}
 use mathlib.Core.List.Permᴰ
 use mathlib.Core.List.{Permᴰ}
-use Rattle.std.proofs.lemmas.Bool.{ne_eqb, eq-eqb, lt-ltb, le-ltb, le-leb, lt-leb, cases_lt}
-use Rattle.store.specs.Lists.{Each, Rising, lookup, firstFrom, placed, replaced, without}
-use Rattle.store.proofs.Each.{Absent, Lower, Higher, each-so}
-use Rattle.store.proofs.Keyed.{placed_first}
+use Rattle.std.proofs.lemmas.Bool.{ne_eqb, eq-eqb, lt-ltb, le-ltb, cases_lt}
+use Rattle.store.specs.Lists.{Each, Rising, lookup, placed, replaced, without}
+use Rattle.store.proofs.Each.{Absent, each-so}
 
 module _ {X : Type 0} (key : X → ℕ) where
   -- where a record goes, seen from the first of a list

@@ -1,10 +1,10 @@
 -- The rules of a store hold of its definitions.
-use Rattle.std.proofs.Common.{◌≡◌, ℕ, suc, ◌+◌, ◌<◌, ◌≤◌, Bool, true, false, cond, eqb, leb, List, [], ◌∷◌, length, is_some, Some, None, Ok, Err, Option, sym, refl, ap, ◌∙◌, ⊎_elim, arith}
+use Rattle.std.proofs.Common.{◌≡◌, ℕ, suc, ◌<◌, ◌≤◌, Bool, true, false, leb, List, [], ◌∷◌, length, is_some, Some, None, Ok, Option, sym, refl, ap, ◌∙◌, ⊎_elim, arith}
 use Rattle.std.proofs.lemmas.Bool.{eq-eqb, ne_eqb, le-leb, lt-leb, leb-true, leb-false, cases_eq, cases_lt, cases_Bool, cases_order}
-use Rattle.store.specs.Lists.{Each, Rising, lookup, holds, firstFrom, placed, replaced, without, others}
-use Rattle.store.specs.Models.{Model, insertSays, inserted, replaceSays, replacing, removing, sweeping}
-use Rattle.store.specs.Rules.{OthersStay, Stored, Gone, Least, Rules}
-use Rattle.store.proofs.Each.{Absent, Lower, Higher, each-so, absent-higher, higher-more}
+use Rattle.store.specs.Lists.{Each, Rising, lookup, holds, firstFrom, replaced, without, others}
+use Rattle.store.specs.Models.{Model, insertSays, inserted, replacing}
+use Rattle.store.specs.Rules.{Stored, Least, Rules}
+use Rattle.store.proofs.Each.{Absent, each-so, absent-higher, higher-more}
 use Rattle.store.proofs.Keyed.{lookup_absent, replaced-absent}
 use Rattle.store.proofs.Placed.{rising-placed, length-placed}
 use Rattle.store.proofs.Inserting.{absent-unheld}

@@ -1,10 +1,10 @@
 -- Records that a test picks, and the others.
-use Rattle.std.proofs.Common.{◌≡◌, ℕ, ◌<◌, ◌≤◌, Bool, true, false, cond, ltb, List, [], ◌∷◌, ◌++◌, map, sym, refl, ap, ◌∙◌, ⊎_elim}
+use Rattle.std.proofs.Common.{◌≡◌, ℕ, ◌<◌, Bool, true, false, ltb, List, [], ◌∷◌, ◌++◌, map, sym, refl, ap, ◌∙◌, ⊎_elim}
 use mathlib.Core.List.Permᴰ
 use mathlib.Core.List.{Permᴰ}
 use Rattle.std.proofs.lemmas.Bool.{cases_Bool}
 use Rattle.tally.specs.Joining.{joinedAll}
-use Rattle.tally.proofs.Laws.{joined-permuted, joined-append, neutral-right}
+use Rattle.tally.proofs.Laws.{joined-permuted, neutral-right}
 use Rattle.store.specs.Lists.{Each, Rising, placed, those, others}
 
 module _ {X : Type 0} (p : X → Bool) where

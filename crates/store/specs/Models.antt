@@ -1,5 +1,5 @@
 -- What a store is: a list of records with rising keys, and a limit. What each call answers and leaves.
-use Rattle.std.specs.Prelude.{ℕ, Bool, cond, List, [], ◌∷◌, length, Ok, Err, Result, nat_le}
+use Rattle.std.specs.Prelude.{ℕ, Bool, cond, List, [], length, Ok, Err, Result, nat_le}
 use Rattle.store.specs.declared.refusal.InsertRefusal.{InsertRefusal}
 use Rattle.store.specs.declared.refusal.InsertRefusal.TheVariants.{Taken, Full}
 use Rattle.store.specs.declared.refusal.ReplaceRefusal.{ReplaceRefusal}

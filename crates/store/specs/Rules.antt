@@ -1,5 +1,5 @@
 -- What the calls of a store come to, in words of what is found: with `determined`, these rules alone fix the list.
-use Rattle.std.specs.Prelude.{◌≡◌, ℕ, ◌+◌, ◌<◌, ◌≤◌, Bool, true, false, List, [], length, Some, None, Ok, Err, ◌≢◌}
+use Rattle.std.specs.Prelude.{◌≡◌, ℕ, ◌+◌, ◌<◌, ◌≤◌, Bool, true, false, List, length, Some, None, Ok, Err, ◌≢◌}
 use Rattle.store.specs.declared.refusal.InsertRefusal.TheVariants.{Taken, Full}
 use Rattle.store.specs.declared.refusal.ReplaceRefusal.TheVariants.{Missing}
 use Rattle.store.specs.Lists.{Rising, lookup, firstFrom}

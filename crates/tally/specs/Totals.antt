@@ -1,6 +1,6 @@
 -- Sums that stop at the greatest number of 64 bits.
 use Rattle.std.specs.Prelude.{ℕ, ◌+◌, ◌-◌, ◌^◌, ◌<◌, min}
-use Rattle.std.proofs.Common.{arith, lit<}
+use Rattle.std.proofs.Common.{arith}
 use Rattle.tally.specs.declared.total.Total.{Total}
 
 -- the greatest number held

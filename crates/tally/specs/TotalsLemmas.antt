@@ -1,5 +1,5 @@
 -- Totals are equal where their numbers are, and adding them keeps a tally's laws.
-use Rattle.std.specs.Prelude.{◌≡◌, ℕ, ◌+◌, ◌^◌, ◌<◌, min}
+use Rattle.std.specs.Prelude.{◌≡◌, ◌+◌, ◌^◌, ◌<◌, min}
 use Rattle.std.proofs.Common.{ap, arith, add_comm}
 use mathlib.Core.HLevel.{is_prop→PathP}
 use Rattle.std.proofs.Math.Bridge.{le_prop}

@@ -9,11 +9,11 @@ loop-byte-preserved c =
       pushed-narrow c.loop-byte.value (get_or c.args.bytes.now c.loop-byte.byte-index 0) c.in-Some.more is,
     )
 
-pub returns-in-default : goal.returns-in-default
-returns-in-default c =
+pub returns-in_default : goal.returns-in_default
+returns-in_default c =
     sym
     (c.loop-byte.invariant.0
-    ∙ reads-not c.loop-byte.value c.loop-byte.byte-index c.args.bytes.now c.loop-byte-test.true (sym c.pushed.ensures ∙ c.in-default.is))
+    ∙ reads-not c.loop-byte.value c.loop-byte.byte-index c.args.bytes.now c.loop-byte-test.true (sym c.pushed.ensures ∙ c.in_default.is))
 
 pub returns : goal.returns
 returns c =

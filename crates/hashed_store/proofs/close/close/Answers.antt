@@ -1,7 +1,6 @@
-use Rattle.std.proofs.Common.{◌≡◌, ℕ, ◌<◌, length, set, ◌∙◌, subst, arith, length-set, rules}
+use Rattle.std.proofs.Common.{◌≡◌, ℕ, ◌<◌, length, set, ◌∙◌, subst, arith, length-set}
 use Rattle.hashed_store.specs.declared.slot.Slot.TheVariants.{Empty}
 use Rattle.hashed_store.specs.Slots.{slot_at}
-use Rattle.hashed_store.specs.Holes.{Holed}
 use Rattle.hashed_store.proofs.Spread.{spread}
 use Rattle.hashed_store.proofs.Closing.{moving-falls, moving-keeps, closed-ends}
 use Rattle.hashed_store.proofs.close.close.Goals as goal
@@ -12,13 +11,13 @@ loop-place-smaller g c =
     let i = c.in-Some.place in
     let h = c.loop-place.hole in
     let e : length ss ≡ length c.args.slots.now = omega arith in
-    rw c.move-back.ensures
+    rw c.move_back.ensures
     (subst (λ (n : ℕ). spread g.R.Record.key n 0 (set (set ss i Empty) h (slot_at ss i)) < spread g.R.Record.key n 0 ss) e
     (moving-falls g.R.Record.key ss h i c.loop-place.invariant.0 c.in-Some.ensures))
 
 pub loop-place-preserved : goal.loop-place-preserved
 loop-place-preserved g c =
-    rw c.move-back.ensures (
+    rw c.move_back.ensures (
       simp length-set c.in-Some.ensures.inside,
       λ was.
           let old = c.loop-place.invariant.1 was in
@@ -28,7 +27,7 @@ loop-place-preserved g c =
 
 pub returns : goal.returns
 returns g c was =
-    let end = c.in-default.ensures in
+    let end = c.in_default.ensures in
     let old = c.loop-place.invariant.1 was in
     record {
       kept = closed-ends g.R.Record.key c.loop-place.slots c.args.reach c.loop-place.hole end.0 c.loop-place.invariant.0 end.1 old.0;

@@ -1,4 +1,4 @@
-use Rattle.std.proofs.Common.{◌≡◌, ◌<◌, ◌≤◌, length, sym, ap, ◌∙◌, arith, take_all}
+use Rattle.std.proofs.Common.{◌<◌, ◌≤◌, length, sym, ap, ◌∙◌, arith, take_all}
 use Rattle.hashed_store.specs.Slots.{held}
 use Rattle.hashed_store.proofs.Going.{cleared_more}
 use Rattle.hashed_store.proofs.Placing.{cleared-all}

@@ -1,6 +1,6 @@
-use Rattle.std.proofs.Common.{◌≡◌, length, sym, ap, ◌∙◌, arith}
+use Rattle.std.proofs.Common.{length, sym, ap, arith}
 use Rattle.store.specs.Lists.{firstFrom}
-use Rattle.hashed_store.specs.Slots.{held, sorted, slot_at, recordIn, nearest}
+use Rattle.hashed_store.specs.Slots.{sorted}
 use Rattle.hashed_store.proofs.Going.{from_more, held-past}
 use Rattle.hashed_store.proofs.least.least_from.Goals as goal
 
@@ -13,5 +13,5 @@ loop-place-preserved g c =
     let step = from_more g.R.Record.key c.args.key c.args.slots.now c.loop-place.place c.loop-place-test.true c.loop-place.auto.place in
     let inv = c.loop-place.invariant in
     let near = c.nearer-best.ensures in
-    let here = c.record-at.ensures in
+    let here = c.record_at.ensures in
     cc

@@ -5,7 +5,7 @@ use Rattle.hashed_store.proofs.place.find_in.Goals as goal
 pub returns-in-Here : goal.returns-in-Here
 returns-in-Here g c kept =
     let f = found_at g.R.Record.key c.args.slots.now c.args.key c.in-Here.place kept.apart c.in-Here.ensures in
-    c.record-at.ensures ∙ sym f.looked
+    c.record_at.ensures ∙ sym f.looked
 
 pub returns-in-Gap : goal.returns-in-Gap
 returns-in-Gap g c kept =

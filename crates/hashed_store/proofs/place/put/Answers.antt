@@ -1,4 +1,4 @@
-use Rattle.std.proofs.Common.{◌≤◌, arith}
+use Rattle.std.proofs.Common.{arith}
 use Rattle.hashed_store.proofs.Placing.{taken-there, put-there, not-put}
 use Rattle.hashed_store.proofs.place.put.Goals as goal
 

@@ -3,8 +3,8 @@ use Rattle.hashed_store.proofs.place.remove_from.Goals as goal
 
 pub returns-in-Here : goal.returns-in-Here
 returns-in-Here g c =
-    taken-key g.R.Record.key c.args.slots.now c.take-at.new.slots c.args.reach c.args.key c.in-Here.place c.record-at-removed.result
-    c.in-Here.ensures c.record-at-removed.ensures c.take-at.ensures
+    taken-key g.R.Record.key c.args.slots.now c.take_at.new.slots c.args.reach c.args.key c.in-Here.place c.record_at-removed.result
+    c.in-Here.ensures c.record_at-removed.ensures c.take_at.ensures
 
 pub returns-in-Gap : goal.returns-in-Gap
 returns-in-Gap g c kept =

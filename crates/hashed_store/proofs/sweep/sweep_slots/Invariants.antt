@@ -7,7 +7,7 @@ use Rattle.hashed_store.proofs.sweep.sweep_slots.Given as goal
 abbrev pub invariant-loop-left : goal.invariant-loop-left
 invariant-loop-left g l =
     Kept g.R.Record.key l.initial.slots l.reach → l.count ≡ length (rows_of g.R.Record.key l.initial.slots)
-    → Going g.R.Record.key (g.P.Pick.picked l.pick) (g.M.Measure.given l.measure) g.Out.Tally.none g.Out.Tally.joining l.reach l.initial.slots l.slots l.given l.left
+    → Going g.R.Record.key (g.P.Pick.picked l.pick) (g.M.Measure.given l.measure) g.M.Out.Tally.none g.M.Out.Tally.joining l.reach l.initial.slots l.slots l.given l.left
 
 abbrev pub decreases-loop-left : goal.decreases-loop-left
 decreases-loop-left g l = 2 * l.left + cond (eqb l.from 0) 0 1

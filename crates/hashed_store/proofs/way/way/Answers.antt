@@ -1,4 +1,4 @@
-use Rattle.std.proofs.Common.{◌≡◌, ◌+◌, ◌<◌, ◌≤◌, length, sym, ap, ◌∙◌, subst, ⊎_elim, mod-lt, arith}
+use Rattle.std.proofs.Common.{◌≡◌, ◌<◌, ◌≤◌, length, sym, ap, ◌∙◌, subst, ⊎_elim, mod-lt, arith}
 use Rattle.std.proofs.lemmas.Bool.{cases_lt}
 use Rattle.hashed_store.specs.Rounds.{around}
 use Rattle.hashed_store.specs.Slots.{slot_at, home_of, Other}

@@ -29,10 +29,10 @@ returns-else-n-rows g c =
     let i = c.in-Err.place in
     let s = goes_at key _ (key c.args.item) _ (take n xs) i c.held.ensures c.key.ensures c.in-Err.ensures in
     let room = c.if-n-rows.false in
-    let ys = c.put-in.new.rows in
+    let ys = c.put_in.new.rows in
     let long : length ys ≡ length xs = omega arith in
     record {
       says = λ h. taken-in-says key n xs i h _ s room;
-      leaves = λ h. taken-in-leaves key n xs i h _ ys s room long c.put-in.ensures;
-      still = λ h. taken-in-still key n xs i h _ ys s room long c.put-in.ensures;
+      leaves = λ h. taken-in-leaves key n xs i h _ ys s room long c.put_in.ensures;
+      still = λ h. taken-in-still key n xs i h _ ys s room long c.put_in.ensures;
     }

@@ -11,11 +11,11 @@ returns-in-Ok g c =
     let m = c.min-n.result in
     let k = c.args.key in
     let i = c.in-Ok.place in
-    let ys = c.take-out.new.rows in
+    let ys = c.take_out.new.rows in
     let same : take m xs ≡ take n xs = counted m n xs c.min-n.ensures in
     let s = stands_at key k k c.held.result.now (take n xs) i (c.held.ensures ∙ same) refl c.in-Ok.ensures in
     let long : length ys ≡ length xs = omega arith in
-    let left : take (m - 1) ys ≡ remove (take n xs) i = rw same at c.take-out.ensures in
+    let left : take (m - 1) ys ≡ remove (take n xs) i = rw same at c.take_out.ensures in
     record {
       says = λ h. removed-says key n xs i h k c.index-rows-place.result s c.index-rows-place.is;
       leaves = λ h. removed-leaves key n xs i h k (m - 1) ys s long left;

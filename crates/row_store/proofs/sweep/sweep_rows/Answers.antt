@@ -20,13 +20,13 @@ loop-i-preserved g c =
     let in' : i < length xs = omega arith in
     let h = c.loop-i.invariant.0 in
     let read = c.index-rows-i.is in
-    let joined = joinedAll g.Out.Tally.none g.Out.Tally.joining in
+    let joined = joinedAll g.M.Out.Tally.none g.M.Out.Tally.joining in
     let f = g.M.Measure.given c.args.measure.now in
     elim c.if-picks.branch [
       | then-picks w ↦
           let t : p x ≡ true = sym c.picks.ensures ∙ w.if-picks.true in
-          let law = g.met.Out.Tally in
-          let more = joined-more g.Out.Tally.none g.Out.Tally.joining law.associative law.commutative law.neutral f (those p (take i xs)) x in
+          let law = g.met.M.Out.Tally in
+          let more = joined-more g.M.Out.Tally.none g.M.Out.Tally.joining law.associative law.commutative law.neutral f (those p (take i xs)) x in
           let all = those-out p xs ys k i x long in' h read t in
           let was = c.loop-i.invariant.1 in
           let one = w.of.ensures in

@@ -1,4 +1,3 @@
-use Rattle.std.proofs.Common.{sym, ap, ◌∙◌}
 use Rattle.store.proofs.Inserting.{found-inserted}
 use Rattle.store.proofs.clients.insert_then_find.Goals as goal
 

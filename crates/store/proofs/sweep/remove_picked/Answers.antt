@@ -3,9 +3,9 @@ use Rattle.store.proofs.sweep.remove_picked.Goals as goal
 
 pub returns : goal.returns
 returns g c =
-    let law = g.met.Out.Tally in
+    let law = g.met.M.Out.Tally in
     record {
-      says = λ ready. in-every-order g.Out.Tally.none g.Out.Tally.joining law.associative law.commutative law.neutral _ _ (c.sweep.ensures.says ready);
+      says = λ ready. in-every-order g.M.Out.Tally.none g.M.Out.Tally.joining law.associative law.commutative law.neutral _ _ (c.sweep.ensures.says ready);
       leaves = c.sweep.ensures.leaves;
       still = c.sweep.ensures.still;
     }

@@ -6,7 +6,7 @@ use Rattle.store.proofs.walk.walk_on.Given as goal
 abbrev pub invariant-loop-left : goal.invariant-loop-left
 invariant-loop-left g l =
     (rows : List g.row.R.Denot) → g.S.Store.ready l.store → Permᴰ (g.S.Store.ahead l.store l.initial.place) rows → l.count ≡ length rows
-    → Walked (g.M.Measure.given l.measure) g.Out.Tally.none g.Out.Tally.joining rows (g.S.Store.ahead l.store l.place) l.met l.left
+    → Walked (g.M.Measure.given l.measure) g.M.Out.Tally.none g.M.Out.Tally.joining rows (g.S.Store.ahead l.store l.place) l.met l.left
 
 abbrev pub decreases-loop-left : goal.decreases-loop-left
 decreases-loop-left g l = l.left

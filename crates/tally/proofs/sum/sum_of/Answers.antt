@@ -1,4 +1,3 @@
-use native.Mathlib.Omega.{arith}
 use borrow.Author.Rules.{rules}
 use Rattle.tally.specs.TotalsLemmas.{same_total}
 use Rattle.tally.proofs.sum.sum_of.Goals as goal

@@ -7,5 +7,5 @@ invariant-loop-turn g l =
     g.Self.Store.ready l.initial.self
     → g.Self.Store.ready l.self
     × ((done : List g.row.R.Denot) × ((coming : List g.row.R.Denot)
-    × SweptTo g.R.Record.key (g.P.Pick.picked l.pick) (g.M.Measure.given l.measure) g.Out.Tally.none g.Out.Tally.joining
-    (g.Self.Store.model l.initial.self) (g.Self.Store.model l.self) done coming l.swept l.key l.-turn))
+    × SweptTo g.R.Record.key (g.P.Pick.picked l.pick) (g.M.Measure.given l.measure) g.M.Out.Tally.none g.M.Out.Tally.joining
+    (g.Self.Store.model l.initial.self) (g.Self.Store.model l.self) done coming l.swept l.key l._turn))
