@@ -4,7 +4,6 @@ use Rattle.std.specs.Str.{bytes_eq}
 use Rattle.calls.specs.declared.call.Call.{Call}
 use Rattle.calls.specs.declared.call.Call.TheVariants.{Insert, Find, From, Replace, Remove, Stands, Count, Limit, Empty}
 use Rattle.calls.specs.declared.call.Kind.{Kind}
-use Rattle.calls.specs.declared.call.Opening.{Opening}
 use Rattle.calls.specs.declared.call.Request.{Request}
 use Rattle.calls.specs.declared.call.Request.TheVariants.{Open, Ask}
 use Rattle.calls.specs.declared.verb.Verb.{Verb}

@@ -1,4 +1,4 @@
-use Rattle.std.proofs.Common.{◌≡◌, ◌-◌, ◌∷◌, take, drop, sym, refl, ap, ◌∙◌, arith}
+use Rattle.std.proofs.Common.{◌≡◌, ◌-◌, ◌∷◌, take, drop, sym, ap, ◌∙◌, arith}
 use Rattle.std.proofs.lemmas.List.{take_rest}
 use Rattle.calls.specs.Words.{wordsAfter}
 use Rattle.calls.proofs.Cutting.{Ends, words-cut}
@@ -7,8 +7,8 @@ use Rattle.calls.proofs.words.cut.Goals as goal
 pub returns : goal.returns
 returns c =
     let xs = c.args.bytes.now in
-    let n = c.word-end-end.result in
-    let said = c.word-end-end.ensures in
+    let n = c.word_end-end.result in
+    let said = c.word_end-end.ensures in
     let ends : Ends xs n = record { within = said.within; before = said.before; found = said.found } in
     let from_start : n ≡ n - 0 = omega arith in
     words-cut xs n ends
