@@ -2,17 +2,17 @@
 use Rattle.std.proofs.Common.{◌≡◌, ℕ, Bool, true, false, cond, ◌&&◌, eqb, List, [], ◌∷◌, None, sym, refl, ap, subst, ⊎_elim}
 use Rattle.std.proofs.lemmas.Bool.{cases_Bool, eqb-true}
 use Rattle.calls.specs.declared.call.Call.{Call}
-use Rattle.calls.specs.Numbers.{isDigit, areDigits, spelt, narrow, number_of}
-use Rattle.calls.specs.Requests.{bareOf, one_of}
+use Rattle.calls.specs.Numbers.{is_digit, are_digits, spelt, narrow, number_of}
+use Rattle.calls.specs.Requests.{bare_of, one_of}
 use Rattle.calls.specs.Words.{onto, words}
 
 -- a byte before the first word leaves some word
-onto-some : (call : Call) (x : ℕ) (ws : List (List ℕ)) → bareOf call (onto x ws) ≡ None
+onto-some : (call : Call) (x : ℕ) (ws : List (List ℕ)) → bare_of call (onto x ws) ≡ None
 onto-some call x [] = refl
 onto-some call x (w ∷ ws) = refl
 
 -- a line has a word
-pub words-some : (call : Call) (xs : List ℕ) → bareOf call (words xs) ≡ None
+pub words-some : (call : Call) (xs : List ℕ) → bare_of call (words xs) ≡ None
 unfolding words
 words-some call [] = refl
 words-some call (x ∷ xs) =
@@ -22,7 +22,7 @@ words-some call (x ∷ xs) =
 abbrev Lone : List ℕ → List (List ℕ) → Type 0
 Lone xs [] = ⊥
 Lone xs (w ∷ []) = w ≡ xs
-Lone xs (w ∷ (v ∷ ws)) = areDigits xs ≡ false
+Lone xs (w ∷ (v ∷ ws)) = are_digits xs ≡ false
 
 and-false : (t u : Bool) → u ≡ false → (t && u) ≡ false
 and-false true u e = e
@@ -31,13 +31,13 @@ and-false false u e = refl
 onto-lone : (x : ℕ) (xs : List ℕ) (ws : List (List ℕ)) → Lone xs ws → Lone (x ∷ xs) (onto x ws)
 onto-lone x xs [] h = absurd h
 onto-lone x xs (w ∷ []) h = ap (λ ys. x ∷ ys) h
-onto-lone x xs (w ∷ (v ∷ ws)) h = and-false (isDigit x) (areDigits xs) h
+onto-lone x xs (w ∷ (v ∷ ws)) h = and-false (is_digit x) (are_digits xs) h
 
 -- a space is no digit, and there is a word after it
 space-lone : (x : ℕ) (xs : List ℕ) (ws : List (List ℕ)) → x ≡ 32 → Lone xs ws → Lone (x ∷ xs) ([] ∷ ws)
 space-lone x xs [] e h = absurd h
 space-lone x xs (w ∷ ws) e h =
-    let P : ℕ → Type 0 = λ y. (isDigit y && areDigits xs) ≡ false in subst P (sym e) refl
+    let P : ℕ → Type 0 = λ y. (is_digit y && are_digits xs) ≡ false in subst P (sym e) refl
 
 lone : (xs : List ℕ) → Lone xs (words xs)
 unfolding words
@@ -48,7 +48,7 @@ lone (x ∷ xs) =
     (λ e. rw e (onto-lone x xs (words xs) (lone xs)))
     (cases_Bool (eqb x 32))
 
-not-digits : (xs : List ℕ) → areDigits xs ≡ false → number_of xs ≡ None
+not-digits : (xs : List ℕ) → are_digits xs ≡ false → number_of xs ≡ None
 not-digits [] e = refl
 not-digits (x ∷ xs) e = ap (λ t. cond t (narrow (spelt 0 (x ∷ xs))) None) e
 

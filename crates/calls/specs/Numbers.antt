@@ -1,12 +1,12 @@
 -- Numbers of decimal digits, below 2^64.
 use Rattle.std.specs.Prelude.{ℕ, ◌+◌, ◌-◌, ◌*◌, ◌^◌, Bool, true, cond, ◌&&◌, List, [], ◌∷◌, Some, None, Option, nat_le, nat_lt}
 
-abbrev pub isDigit : ℕ → Bool
-isDigit b = nat_le 48 b && nat_le b 57
+abbrev pub is_digit : ℕ → Bool
+is_digit b = nat_le 48 b && nat_le b 57
 
-abbrev pub areDigits : List ℕ → Bool
-areDigits [] = true
-areDigits (b ∷ bs) = isDigit b && areDigits bs
+abbrev pub are_digits : List ℕ → Bool
+are_digits [] = true
+are_digits (b ∷ bs) = is_digit b && are_digits bs
 
 -- the number that digits spell behind the number v
 abbrev pub spelt : ℕ → List ℕ → ℕ
@@ -19,7 +19,7 @@ narrow n = cond (nat_lt n (2 ^ 64)) (Some n) None
 
 -- the number that the bytes spell behind v, if they are digits and it is below 2^64
 abbrev pub decimal : ℕ → List ℕ → Option ℕ
-decimal v bs = cond (areDigits bs) (narrow (spelt v bs)) None
+decimal v bs = cond (are_digits bs) (narrow (spelt v bs)) None
 
 -- one digit at least
 abbrev pub number_of : List ℕ → Option ℕ
@@ -28,4 +28,4 @@ number_of (b ∷ bs) = decimal 0 (b ∷ bs)
 
 -- one more digit behind a number
 abbrev pub pushed_on : ℕ → ℕ → Option ℕ
-pushed_on v b = cond (isDigit b) (narrow (v * 10 + (b - 48))) None
+pushed_on v b = cond (is_digit b) (narrow (v * 10 + (b - 48))) None

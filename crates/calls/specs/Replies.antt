@@ -4,11 +4,11 @@ use Rattle.messages.specs.declared.code.Display.TheVariants.{Quoted}
 use Rattle.messages.specs.declared.code.Side.TheVariants.{Buy}
 use Rattle.records.specs.declared.order.Order.{Order}
 use Rattle.store.specs.declared.refusal.InsertRefusal.{InsertRefusal}
-use Rattle.store.specs.declared.refusal.InsertRefusal.TheVariants as insertRefusal
+use Rattle.store.specs.declared.refusal.InsertRefusal.TheVariants as insert_refusal
 use Rattle.store.specs.declared.refusal.ReplaceRefusal.{ReplaceRefusal}
-use Rattle.store.specs.declared.refusal.ReplaceRefusal.TheVariants as replaceRefusal
-use Rattle.store.specs.Lists.{lookup, firstFrom}
-use Rattle.store.specs.Models.{Model, insertSays, inserted, replaceSays, replacing, removing, emptied}
+use Rattle.store.specs.declared.refusal.ReplaceRefusal.TheVariants as replace_refusal
+use Rattle.store.specs.Lists.{lookup, first_from}
+use Rattle.store.specs.Models.{Model, insert_says, inserted, replace_says, replacing, removing, emptied}
 use Rattle.front_row.specs.Fronts.{key_of}
 use Rattle.calls.specs.declared.call.Call.{Call}
 use Rattle.calls.specs.declared.call.Call.TheVariants.{Insert, Find, From, Replace, Remove, Stands, Count, Limit, Empty}
@@ -19,45 +19,45 @@ use Rattle.calls.specs.declared.reply.Reply.TheVariants.{Done, Taken, Full, Miss
 abbrev pub order_of : ℕ → ℕ → Order
 order_of k n = record { id = k; symbol = 0; side = Buy; price = 0; shares = n; display = Quoted }
 
-abbrev pub insertReply : Result (Unit {0}) InsertRefusal → Reply
-insertReply (Ok _) = Done
-insertReply (Err insertRefusal.Taken) = Taken
-insertReply (Err insertRefusal.Full) = Full
+abbrev pub insert_reply : Result (Unit {0}) InsertRefusal → Reply
+insert_reply (Ok _) = Done
+insert_reply (Err insert_refusal.Taken) = Taken
+insert_reply (Err insert_refusal.Full) = Full
 
-abbrev pub replaceReply : Result (Unit {0}) ReplaceRefusal → Reply
-replaceReply (Ok _) = Done
-replaceReply (Err replaceRefusal.Missing) = Missing
+abbrev pub replace_reply : Result (Unit {0}) ReplaceRefusal → Reply
+replace_reply (Ok _) = Done
+replace_reply (Err replace_refusal.Missing) = Missing
 
 -- an order is shown by its key and its shares
-abbrev pub foundReply : Option Order → Reply
-foundReply (Some o) = Found o.id o.shares
-foundReply None = Nothing
+abbrev pub found_reply : Option Order → Reply
+found_reply (Some o) = Found o.id o.shares
+found_reply None = Nothing
 
-abbrev pub frontReply : Option Bool → Reply
-frontReply (Some true) = Standing
-frontReply (Some false) = Absent
-frontReply None = NoFront
+abbrev pub front_reply : Option Bool → Reply
+front_reply (Some true) = Standing
+front_reply (Some false) = Absent
+front_reply None = NoFront
 
 -- what is answered, where the front says of a key whether it stands
-abbrev pub replyOf : (ℕ → Option Bool) → Call → Model Order → Reply
-replyOf front (Insert k n) m = insertReply (insertSays key_of (order_of k n) m)
-replyOf front (Find k) m = foundReply (lookup key_of k m.rows)
-replyOf front (From k) m = foundReply (firstFrom key_of k m.rows)
-replyOf front (Replace k n) m = replaceReply (replaceSays key_of (order_of k n) m)
-replyOf front (Remove k) m = foundReply (lookup key_of k m.rows)
-replyOf front (Stands k) m = frontReply (front k)
-replyOf front Count m = Counted (length m.rows)
-replyOf front Limit m = Limited m.limit
-replyOf front Empty m = Done
+abbrev pub reply_of : (ℕ → Option Bool) → Call → Model Order → Reply
+reply_of front (Insert k n) m = insert_reply (insert_says key_of (order_of k n) m)
+reply_of front (Find k) m = found_reply (lookup key_of k m.rows)
+reply_of front (From k) m = found_reply (first_from key_of k m.rows)
+reply_of front (Replace k n) m = replace_reply (replace_says key_of (order_of k n) m)
+reply_of front (Remove k) m = found_reply (lookup key_of k m.rows)
+reply_of front (Stands k) m = front_reply (front k)
+reply_of front Count m = Counted (length m.rows)
+reply_of front Limit m = Limited m.limit
+reply_of front Empty m = Done
 
 -- what the store is afterwards: questions leave it as it was
-abbrev pub modelAfter : Call → Model Order → Model Order
-modelAfter (Insert k n) m = inserted key_of (order_of k n) m
-modelAfter (Find k) m = m
-modelAfter (From k) m = m
-modelAfter (Replace k n) m = replacing key_of (order_of k n) m
-modelAfter (Remove k) m = removing key_of k m
-modelAfter (Stands k) m = m
-modelAfter Count m = m
-modelAfter Limit m = m
-modelAfter Empty m = emptied m
+abbrev pub model_after : Call → Model Order → Model Order
+model_after (Insert k n) m = inserted key_of (order_of k n) m
+model_after (Find k) m = m
+model_after (From k) m = m
+model_after (Replace k n) m = replacing key_of (order_of k n) m
+model_after (Remove k) m = removing key_of k m
+model_after (Stands k) m = m
+model_after Count m = m
+model_after Limit m = m
+model_after Empty m = emptied m

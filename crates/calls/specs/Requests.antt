@@ -9,13 +9,13 @@ use Rattle.calls.specs.declared.call.Request.TheVariants.{Open, Ask}
 use Rattle.calls.specs.declared.verb.Verb.{Verb}
 use Rattle.calls.specs.declared.verb.Verb.TheVariants as verb
 use Rattle.calls.specs.Numbers.{number_of}
-use Rattle.calls.specs.Verbs.{verbOf, kind_of}
+use Rattle.calls.specs.Verbs.{verb_meant, kind_of}
 use Rattle.calls.specs.Words.{words}
 
 -- no word
-abbrev pub bareOf : Call → List (List ℕ) → Option Request
-bareOf call [] = Some (Ask call)
-bareOf call (w ∷ ws) = None
+abbrev pub bare_of : Call → List (List ℕ) → Option Request
+bare_of call [] = Some (Ask call)
+bare_of call (w ∷ ws) = None
 
 -- one number
 abbrev pub one_of : List (List ℕ) → Option ℕ
@@ -33,9 +33,9 @@ both None n = None
 both (Some k) None = None
 both (Some k) (Some n) = Some (k, n)
 
-abbrev pub twoOf : List (List ℕ) → Option (ℕ × ℕ)
-twoOf [] = None
-twoOf (w ∷ ws) = both (number_of w) (one_of ws)
+abbrev pub two_of : List (List ℕ) → Option (ℕ × ℕ)
+two_of [] = None
+two_of (w ∷ ws) = both (number_of w) (one_of ws)
 
 abbrev pub paired : (ℕ → ℕ → Call) → Option (ℕ × ℕ) → Option Request
 paired call None = None
@@ -47,31 +47,31 @@ sized front None n = None
 sized front (Some kind) None = None
 sized front (Some kind) (Some n) = cond (nat_le n 4096) (Some (Open (record { front = front; kind = kind; limit = n }))) None
 
-abbrev pub shapedOf : Bool → List (List ℕ) → Option Request
-shapedOf front [] = None
-shapedOf front (w ∷ ws) = sized front (kind_of w) (one_of ws)
+abbrev pub shaped_of : Bool → List (List ℕ) → Option Request
+shaped_of front [] = None
+shaped_of front (w ∷ ws) = sized front (kind_of w) (one_of ws)
 
 -- with the word front before it or not
-abbrev pub openingOf : List (List ℕ) → Option Request
-openingOf [] = None
-openingOf (w ∷ ws) = cond (bytes_eq w (codes "front")) (shapedOf true ws) (shapedOf false (w ∷ ws))
+abbrev pub opening_of : List (List ℕ) → Option Request
+opening_of [] = None
+opening_of (w ∷ ws) = cond (bytes_eq w (codes "front")) (shaped_of true ws) (shaped_of false (w ∷ ws))
 
-abbrev pub verbAsks : Option Verb → List (List ℕ) → Option Request
-verbAsks None ws = None
-verbAsks (Some verb.Store) ws = openingOf ws
-verbAsks (Some verb.Insert) ws = paired Insert (twoOf ws)
-verbAsks (Some verb.Find) ws = keyed Find (one_of ws)
-verbAsks (Some verb.From) ws = keyed From (one_of ws)
-verbAsks (Some verb.Replace) ws = paired Replace (twoOf ws)
-verbAsks (Some verb.Remove) ws = keyed Remove (one_of ws)
-verbAsks (Some verb.Stands) ws = keyed Stands (one_of ws)
-verbAsks (Some verb.Count) ws = bareOf Count ws
-verbAsks (Some verb.Limit) ws = bareOf Limit ws
-verbAsks (Some verb.Empty) ws = bareOf Empty ws
+abbrev pub verb_asks : Option Verb → List (List ℕ) → Option Request
+verb_asks None ws = None
+verb_asks (Some verb.Store) ws = opening_of ws
+verb_asks (Some verb.Insert) ws = paired Insert (two_of ws)
+verb_asks (Some verb.Find) ws = keyed Find (one_of ws)
+verb_asks (Some verb.From) ws = keyed From (one_of ws)
+verb_asks (Some verb.Replace) ws = paired Replace (two_of ws)
+verb_asks (Some verb.Remove) ws = keyed Remove (one_of ws)
+verb_asks (Some verb.Stands) ws = keyed Stands (one_of ws)
+verb_asks (Some verb.Count) ws = bare_of Count ws
+verb_asks (Some verb.Limit) ws = bare_of Limit ws
+verb_asks (Some verb.Empty) ws = bare_of Empty ws
 
-abbrev pub wordsAsk : List (List ℕ) → Option Request
-wordsAsk [] = None
-wordsAsk (w ∷ ws) = verbAsks (verbOf w) ws
+abbrev pub words_ask : List (List ℕ) → Option Request
+words_ask [] = None
+words_ask (w ∷ ws) = verb_asks (verb_meant w) ws
 
-abbrev pub requestOf : List ℕ → Option Request
-requestOf line = wordsAsk (words line)
+abbrev pub request_of : List ℕ → Option Request
+request_of line = words_ask (words line)

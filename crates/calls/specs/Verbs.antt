@@ -6,8 +6,8 @@ use Rattle.calls.specs.declared.call.Kind.TheVariants.{Row, Hashed}
 use Rattle.calls.specs.declared.verb.Verb.{Verb}
 use Rattle.calls.specs.declared.verb.Verb.TheVariants.{Store, Insert, Find, From, Replace, Remove, Stands, Count, Limit, Empty}
 
-abbrev pub verbOf : List ℕ → Option Verb
-verbOf w =
+abbrev pub verb_meant : List ℕ → Option Verb
+verb_meant w =
     cond (bytes_eq w (codes "store")) (Some Store)
     (cond (bytes_eq w (codes "insert")) (Some Insert)
     (cond (bytes_eq w (codes "find")) (Some Find)

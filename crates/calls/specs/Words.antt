@@ -12,6 +12,6 @@ words [] = [] ∷ []
 words (x ∷ xs) = cond (x == 32) ([] ∷ words xs) (onto x (words xs))
 
 -- the words after a space, of which there are none without one
-abbrev pub wordsAfter : List ℕ → List (List ℕ)
-wordsAfter [] = []
-wordsAfter (x ∷ xs) = cond (x == 32) (words xs) []
+abbrev pub words_after : List ℕ → List (List ℕ)
+words_after [] = []
+words_after (x ∷ xs) = cond (x == 32) (words xs) []

@@ -1,6 +1,6 @@
 // What a store answers to a call, whatever the store.
 ghost use Rattle.std.specs.Prelude.{◌≡◌};
-ghost use Rattle.calls.specs.Replies.{order_of, insertReply, replaceReply, foundReply, frontReply, replyOf, modelAfter};
+ghost use Rattle.calls.specs.Replies.{order_of, insert_reply, replace_reply, found_reply, front_reply, reply_of, model_after};
 
 use crate::call::Call;
 use crate::fronted::Fronted;
@@ -11,8 +11,8 @@ use store::refusal::{InsertRefusal, ReplaceRefusal};
 use store::store::Store;
 
 pub fn answer<S: Store<Order> + Fronted>(store: &mut S, call: Call) -> Reply
-    ensures says { S.Store.ready store.old → result ≡ replyOf (S.Fronted.fronts store.old) call (S.Store.model store.old) }
-    ensures leaves { S.Store.ready store.old → S.Store.model store.new ≡ modelAfter call (S.Store.model store.old) }
+    ensures says { S.Store.ready store.old → result ≡ reply_of (S.Fronted.fronts store.old) call (S.Store.model store.old) }
+    ensures leaves { S.Store.ready store.old → S.Store.model store.new ≡ model_after call (S.Store.model store.old) }
     ensures still { S.Store.ready store.old → S.Store.ready store.new }
 {
     match call {
@@ -46,7 +46,7 @@ fn order_of(key: u64, shares: u64) -> Order
 }
 
 fn after_insert(answer: Result<(), InsertRefusal>) -> Reply
-    ensures { result ≡ insertReply answer }
+    ensures { result ≡ insert_reply answer }
 {
     match answer {
         Ok(()) => Reply::Done,
@@ -56,7 +56,7 @@ fn after_insert(answer: Result<(), InsertRefusal>) -> Reply
 }
 
 fn after_replace(answer: Result<(), ReplaceRefusal>) -> Reply
-    ensures { result ≡ replaceReply answer }
+    ensures { result ≡ replace_reply answer }
 {
     match answer {
         Ok(()) => Reply::Done,
@@ -65,7 +65,7 @@ fn after_replace(answer: Result<(), ReplaceRefusal>) -> Reply
 }
 
 fn found(order: Option<Order>) -> Reply
-    ensures { result ≡ foundReply order }
+    ensures { result ≡ found_reply order }
 {
     match order {
         Some(order) => Reply::Found(order.id, order.shares),
@@ -74,7 +74,7 @@ fn found(order: Option<Order>) -> Reply
 }
 
 fn fronting(stands: Option<bool>) -> Reply
-    ensures { result ≡ frontReply stands }
+    ensures { result ≡ front_reply stands }
 {
     match stands {
         Some(true) => Reply::Standing,

@@ -1,7 +1,7 @@
 // What a line asks for.
 ghost use Rattle.std.specs.Prelude.{◌≡◌};
-ghost use Rattle.calls.specs.Requests.{requestOf, openingOf, shapedOf, one_of, twoOf, bareOf};
-ghost use Rattle.calls.specs.Words.{words, wordsAfter};
+ghost use Rattle.calls.specs.Requests.{request_of, opening_of, shaped_of, one_of, two_of, bare_of};
+ghost use Rattle.calls.specs.Words.{words, words_after};
 
 use crate::call::{Call, Opening, Request};
 use crate::number::{number, whole_number};
@@ -12,7 +12,7 @@ use crate::words::{after_space, cut, is_word};
 const MOST: u64 = 4096;
 
 pub fn parse(line: &[u8]) -> Option<Request>
-    ensures { result ≡ requestOf line.now }
+    ensures { result ≡ request_of line.now }
 {
     let (word, rest) = cut(line);
     match verb_of(word)? {
@@ -37,7 +37,7 @@ pub fn parse(line: &[u8]) -> Option<Request>
 
 // The call, if nothing stands after its verb.
 fn alone(call: Call, rest: &[u8]) -> Option<Request>
-    ensures { result ≡ bareOf call (wordsAfter rest.now) }
+    ensures { result ≡ bare_of call (words_after rest.now) }
 {
     match after_space(rest) {
         Some(_) => None,
@@ -46,7 +46,7 @@ fn alone(call: Call, rest: &[u8]) -> Option<Request>
 }
 
 fn one_number(rest: &[u8]) -> Option<u64>
-    ensures { result ≡ one_of (wordsAfter rest.now) }
+    ensures { result ≡ one_of (words_after rest.now) }
 {
     match after_space(rest) {
         Some(line) => whole_number(line),
@@ -55,7 +55,7 @@ fn one_number(rest: &[u8]) -> Option<u64>
 }
 
 fn two_numbers(rest: &[u8]) -> Option<(u64, u64)>
-    ensures { result ≡ twoOf (wordsAfter rest.now) }
+    ensures { result ≡ two_of (words_after rest.now) }
 {
     let line = after_space(rest)?;
     let (word, rest) = cut(line);
@@ -65,7 +65,7 @@ fn two_numbers(rest: &[u8]) -> Option<(u64, u64)>
 }
 
 fn opening(rest: &[u8]) -> Option<Request>
-    ensures { result ≡ openingOf (wordsAfter rest.now) }
+    ensures { result ≡ opening_of (words_after rest.now) }
 {
     let line = after_space(rest)?;
     let (word, more) = cut(line);
@@ -77,7 +77,7 @@ fn opening(rest: &[u8]) -> Option<Request>
 }
 
 fn shaped(front: bool, line: &[u8]) -> Option<Request>
-    ensures { result ≡ shapedOf front (words line.now) }
+    ensures { result ≡ shaped_of front (words line.now) }
 {
     let (word, rest) = cut(line);
     let kind = kind_of(word)?;

@@ -1,6 +1,6 @@
 // What is answered to a line, and how it is shown.
 ghost use Rattle.std.specs.Prelude.{Some};
-ghost use Rattle.calls.specs.Texts.{replyText, numberedText};
+ghost use Rattle.calls.specs.Texts.{reply_text, numbered_text};
 
 use std::fmt;
 
@@ -24,7 +24,7 @@ pub enum Reply {
 }
 
 impl fmt::Display for Reply {
-    ghost output = { λ r. Some (replyText r) };
+    ghost output = { λ r. Some (reply_text r) };
 
     fn fmt<W: fmt::Write>(&self, f: &mut fmt::Formatter<W>) -> fmt::Result {
         match *self {
@@ -54,7 +54,7 @@ pub struct Numbered {
 }
 
 impl fmt::Display for Numbered {
-    ghost output = { λ r. Some (numberedText r.number r.reply) };
+    ghost output = { λ r. Some (numbered_text r.number r.reply) };
 
     fn fmt<W: fmt::Write>(&self, f: &mut fmt::Formatter<W>) -> fmt::Result {
         let number = self.number;

@@ -1,6 +1,6 @@
 // The words that a line begins with.
 ghost use Rattle.std.specs.Prelude.{◌≡◌};
-ghost use Rattle.calls.specs.Verbs.{verbOf, kind_of};
+ghost use Rattle.calls.specs.Verbs.{verb_meant, kind_of};
 
 use crate::call::Kind;
 use crate::words::is_word;
@@ -20,7 +20,7 @@ pub(crate) enum Verb {
 }
 
 pub(crate) fn verb_of(word: &[u8]) -> Option<Verb>
-    ensures { result ≡ verbOf word.now }
+    ensures { result ≡ verb_meant word.now }
 {
     if is_word(word, b"store") {
         Some(Verb::Store)

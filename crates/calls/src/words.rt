@@ -1,11 +1,11 @@
 // The words of a line: what stands between its spaces.
 ghost use Rattle.std.specs.Prelude.{◌≡◌, ℕ, ◌<◌, ◌≤◌, [], ◌∷◌, length, MatchOption, ◌≢◌, slice_index};
 ghost use Rattle.std.specs.Str.{bytes_eq};
-ghost use Rattle.calls.specs.Words.{words, wordsAfter};
+ghost use Rattle.calls.specs.Words.{words, words_after};
 
 // The first word, and what stands after it with the space before that.
 pub(crate) fn cut(bytes: &[u8]) -> (&[u8], &[u8])
-    ensures { words bytes.now ≡ result.0.now ∷ wordsAfter result.1.now }
+    ensures { words bytes.now ≡ result.0.now ∷ words_after result.1.now }
 {
     let end = word_end(bytes);
     (&bytes[0..end], &bytes[end..])
@@ -27,7 +27,7 @@ fn word_end(bytes: &[u8]) -> usize
 
 // What stands after a space, if there is one.
 pub(crate) fn after_space(rest: &[u8]) -> Option<&[u8]>
-    ensures { MatchOption result (wordsAfter rest.now ≡ []) (λ x. wordsAfter rest.now ≡ words x.now) }
+    ensures { MatchOption result (words_after rest.now ≡ []) (λ x. words_after rest.now ≡ words x.now) }
 {
     if rest.len() > 0 && rest[0] == b' ' {
         Some(&rest[1..])

@@ -1,6 +1,6 @@
 -- Where a line ends, from the place of its first line end.
 use Rattle.std.proofs.Common.{◌≡◌, ℕ, zero, suc, ◌<◌, false, cond, eqb, List, [], ◌∷◌, length, get_or, take, drop, Some, None, sym, refl, ap, subst, arith, ne_eqb}
-use Rattle.capture.specs.Splits.{beforeEnd, after_end}
+use Rattle.capture.specs.Splits.{before_end, after_end}
 
 -- no line end stands below that place
 abbrev pub Clear : List ℕ → ℕ → Type 0
@@ -12,9 +12,9 @@ tail-clear x xs n c k h = c (suc k) (omega arith)
 head_clear : (x : ℕ) (xs : List ℕ) (n : ℕ) → Clear (x ∷ xs) (suc n) → eqb x 10 ≡ false
 head_clear x xs n c = ne_eqb x 10 (c zero (omega arith))
 
-pub before-found : (xs : List ℕ) (n : ℕ) → Clear xs n → n < length xs → get_or xs n 0 ≡ 10 → beforeEnd xs ≡ take n xs
+pub before-found : (xs : List ℕ) (n : ℕ) → Clear xs n → n < length xs → get_or xs n 0 ≡ 10 → before_end xs ≡ take n xs
 before-found [] n c h e = absurd (omega arith)
-before-found (x ∷ xs) zero c h e = let P : ℕ → Type 0 = λ y. cond (eqb y 10) [] (y ∷ beforeEnd xs) ≡ [] in subst P (sym e) refl
+before-found (x ∷ xs) zero c h e = let P : ℕ → Type 0 = λ y. cond (eqb y 10) [] (y ∷ before_end xs) ≡ [] in subst P (sym e) refl
 before-found (x ∷ xs) (suc n) c h e =
     let off = head_clear x xs n c in
     rw off (ap (λ ys. x ∷ ys) (before-found xs n (tail-clear x xs n c) (omega arith) e))
@@ -26,7 +26,7 @@ after-found (x ∷ xs) (suc n) c h e =
     let off = head_clear x xs n c in
     rw off (after-found xs n (tail-clear x xs n c) (omega arith) e)
 
-pub before-none : (xs : List ℕ) → Clear xs (length xs) → beforeEnd xs ≡ xs
+pub before-none : (xs : List ℕ) → Clear xs (length xs) → before_end xs ≡ xs
 before-none [] c = refl
 before-none (x ∷ xs) c =
     let off = head_clear x xs (length xs) c in

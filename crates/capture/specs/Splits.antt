@@ -2,9 +2,9 @@
 use Rattle.std.specs.Prelude.{ℕ, cond, List, [], ◌∷◌, Some, None, Option, ◌==◌}
 
 -- the bytes before the first line end, or all of them
-abbrev pub beforeEnd : List ℕ → List ℕ
-beforeEnd [] = []
-beforeEnd (x ∷ xs) = cond (x == 10) [] (x ∷ beforeEnd xs)
+abbrev pub before_end : List ℕ → List ℕ
+before_end [] = []
+before_end (x ∷ xs) = cond (x == 10) [] (x ∷ before_end xs)
 
 -- the bytes after the first line end, where there is one
 abbrev pub after_end : List ℕ → Option (List ℕ)

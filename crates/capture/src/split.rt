@@ -1,10 +1,10 @@
 // Where a line ends.
 ghost use Rattle.std.specs.Prelude.{◌≡◌, ℕ, ◌<◌, ◌≤◌, length, Some, None, MatchOption, ◌≢◌, slice_index};
-ghost use Rattle.capture.specs.Splits.{beforeEnd, after_end};
+ghost use Rattle.capture.specs.Splits.{before_end, after_end};
 
 // What stands before the first line end and what stands after it; without a line end all of it, and nothing.
 pub fn split_line(bytes: &[u8]) -> (&[u8], Option<&[u8]>)
-    ensures first { result.0.now ≡ beforeEnd bytes.now }
+    ensures first { result.0.now ≡ before_end bytes.now }
     ensures second { MatchOption result.1 (after_end bytes.now ≡ None) (λ x. (after_end bytes.now ≡ Some x.now) × (length x.now < length bytes.now)) }
 {
     let end = line_end(bytes);

@@ -3,7 +3,7 @@ use Rattle.std.specs.Prelude.{◌≡◌, ℕ, ◌+◌, ◌*◌, Bool, true, fals
 use Rattle.messages.specs.declared.fault.MessageFault.{MessageFault}
 use Rattle.messages.specs.declared.types.MessageType.{MessageType}
 use Rattle.messages.specs.Faults.{number_of, carried_of}
-use Rattle.messages.specs.Lines.{readLine}
+use Rattle.messages.specs.Lines.{line_read}
 use Rattle.records.specs.Values.{stopped, high_of, low_of}
 
 pub data Answer : Type 0 where
@@ -31,7 +31,7 @@ meets (Err e) (says place value) = false
 meets (Err e) (refused number carried) = number_of e == number && same_list (carried_of e) carried
 
 abbrev pub stands : Example → Bool
-stands (reads line answer) = meets (readLine line) answer
+stands (reads line answer) = meets (line_read line) answer
 stands (parted worth high low) = high_of worth == high && low_of worth == low
 
 abbrev pub holds : List Example → Bool

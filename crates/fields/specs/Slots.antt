@@ -3,8 +3,8 @@ use Rattle.layout.specs.Slots.{Slot, number, text}
 use Rattle.fields.specs.declared.numeral.Number.{Number}
 use Rattle.fields.specs.declared.padded.Text.{Text}
 
-abbrev pub numberSlot : Number → Slot
-numberSlot f = number f.base f.count f.low f.high
+abbrev pub number_slot : Number → Slot
+number_slot f = number f.base f.count f.low f.high
 
-abbrev pub textSlot : Text → Slot
-textSlot f = text f.class f.least f.width f.whole
+abbrev pub text_slot : Text → Slot
+text_slot f = text f.class f.least f.width f.whole

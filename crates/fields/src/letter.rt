@@ -1,6 +1,6 @@
 // Fields of one byte out of some.
 ghost use Rattle.std.specs.Prelude.{◌≡◌, ℕ, true, false, List, [], ◌∷◌, if◌then◌else◌, Ok, Err, MatchOption, MatchResult};
-ghost use Rattle.layout.specs.Slots.{choice, isOneOf, read_slot, scanSlot, spell, over};
+ghost use Rattle.layout.specs.Slots.{choice, is_one_of, read_slot, scan_slot, spell, over};
 
 use crate::put::put_byte;
 use crate::rest::{past, spot_at};
@@ -14,13 +14,13 @@ pub trait Lettered {
 
     // The value that is written as that byte.
     fn of_byte(byte: u8) -> Option<Self>
-        ensures { MatchOption result (isOneOf letters byte ≡ false) (λ x. written x ≡ byte) };
+        ensures { MatchOption result (is_one_of letters byte ≡ false) (λ x. written x ≡ byte) };
 
     // The byte that it is written as.
     fn byte(&self) -> u8
         ensures { result ≡ written self.now };
 
-    ghost member: { (x : Self) → isOneOf letters (written x) ≡ true };
+    ghost member: { (x : Self) → is_one_of letters (written x) ≡ true };
 }
 
 // The value at the front of the line, and what is left of the line.
@@ -63,7 +63,7 @@ pub fn put_mark(room: &mut [u8], offset: u8, letter: u8)
 }
 
 fn scan<L: Lettered>(line: &[u8]) -> Option<L>
-    ensures { MatchOption result (scanSlot (choice L.letters) line.now ≡ Err 0) (λ x. scanSlot (choice L.letters) line.now ≡ Ok (L.written x)) }
+    ensures { MatchOption result (scan_slot (choice L.letters) line.now ≡ Err 0) (λ x. scan_slot (choice L.letters) line.now ≡ Ok (L.written x)) }
 {
     if line.is_empty() {
         return None;
@@ -72,7 +72,7 @@ fn scan<L: Lettered>(line: &[u8]) -> Option<L>
 }
 
 fn begins(line: &[u8], letter: u8) -> bool
-    ensures { scanSlot (choice (letter ∷ [])) line.now ≡ (if result then Ok letter else Err 0) }
+    ensures { scan_slot (choice (letter ∷ [])) line.now ≡ (if result then Ok letter else Err 0) }
 {
     if line.is_empty() {
         return false;

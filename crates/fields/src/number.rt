@@ -1,7 +1,7 @@
 // Fields of digits: read, checked and written.
 ghost use Rattle.std.specs.Prelude.{◌≡◌, Ok, Err, MatchResult};
-ghost use Rattle.layout.specs.Slots.{read_slot, checkSlot, in_range, scanSlot, spell, over};
-ghost use Rattle.fields.specs.Slots.{numberSlot};
+ghost use Rattle.layout.specs.Slots.{read_slot, check_slot, in_range, scan_slot, spell, over};
+ghost use Rattle.fields.specs.Slots.{number_slot};
 
 use crate::numeral::Number;
 use crate::put::put_digits;
@@ -16,7 +16,7 @@ pub fn read_number(
     offset: u8,
     field: Number,
 ) -> Result<(u64, &[u8]), FieldFault>
-    ensures { MatchResult result (λ p. read_slot (numberSlot field) letter offset line.now ≡ Ok (p.0, p.1.now)) (λ e. read_slot (numberSlot field) letter offset line.now ≡ Err e) }
+    ensures { MatchResult result (λ p. read_slot (number_slot field) letter offset line.now ≡ Ok (p.0, p.1.now)) (λ e. read_slot (number_slot field) letter offset line.now ≡ Err e) }
 {
     match scan(line, field) {
         Err(index) => Err(FieldFault::Byte(spot_at(letter, offset, index))),
@@ -31,7 +31,7 @@ pub fn read_number(
 
 // Whether some line gives the number in that field.
 pub fn check_number(value: u64, letter: u8, offset: u8, field: Number) -> Result<(), FieldFault>
-    ensures { result ≡ checkSlot (numberSlot field) letter offset value }
+    ensures { result ≡ check_slot (number_slot field) letter offset value }
 {
     if in_range(value, field) {
         Ok(())
@@ -42,20 +42,20 @@ pub fn check_number(value: u64, letter: u8, offset: u8, field: Number) -> Result
 
 // Writes the number's digits over the bytes at the offset; where they do not fit, nothing.
 pub fn put_number(room: &mut [u8], offset: u8, field: Number, value: u64)
-    ensures { room.new ≡ over offset (spell (numberSlot field) value) room.old }
+    ensures { room.new ≡ over offset (spell (number_slot field) value) room.old }
 {
     put_digits(room, offset, field.base, field.count, value);
 }
 
 fn in_range(value: u64, field: Number) -> bool
-    ensures { result ≡ in_range (numberSlot field) value }
+    ensures { result ≡ in_range (number_slot field) value }
 {
     field.low <= value && value <= field.high
 }
 
 // The number of the digits at the front, or the place of the first byte that is none.
 fn scan(line: &[u8], field: Number) -> Result<u64, u8>
-    ensures { result ≡ scanSlot (numberSlot field) line.now }
+    ensures { result ≡ scan_slot (number_slot field) line.now }
 {
     let mut value = 0;
     for i in 0..field.count {

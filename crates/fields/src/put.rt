@@ -1,13 +1,13 @@
 // Writing digits.
 ghost use Rattle.std.specs.Prelude.{◌≡◌, ◌+◌, ◌<◌, ◌≤◌, [], ◌∷◌, ◌++◌, length, take, drop};
-ghost use Rattle.layout.specs.Bytes.{byteIn};
-ghost use Rattle.layout.specs.Digits.{digitBytes};
+ghost use Rattle.layout.specs.Bytes.{byte_within};
+ghost use Rattle.layout.specs.Digits.{digit_bytes};
 ghost use Rattle.layout.specs.Slots.{over};
 
 // Writes so many digits of the value over the bytes at the offset; where they do not fit, nothing.
 pub(crate) fn put_digits(room: &mut [u8], offset: u8, base: u64, count: u8, value: u64)
     requires { (2 ≤ base) × (base ≤ 256) }
-    ensures { room.new ≡ over offset (digitBytes base count value) room.old }
+    ensures { room.new ≡ over offset (digit_bytes base count value) room.old }
 {
     if offset as usize + count as usize <= room.len() {
         put_within(room, offset as usize, base, count as usize, value);
@@ -17,7 +17,7 @@ pub(crate) fn put_digits(room: &mut [u8], offset: u8, base: u64, count: u8, valu
 // From the last digit to the first.
 fn put_within(room: &mut [u8], start: usize, base: u64, count: usize, value: u64)
     requires { (start + count ≤ length room.old) × ((2 ≤ base) × (base ≤ 256)) }
-    ensures { room.new ≡ take start room.old ++ (digitBytes base count value ++ drop (start + count) room.old) }
+    ensures { room.new ≡ take start room.old ++ (digit_bytes base count value ++ drop (start + count) room.old) }
 {
     let mut left = value;
     for i in 0..count {
@@ -29,7 +29,7 @@ fn put_within(room: &mut [u8], start: usize, base: u64, count: usize, value: u64
 // The byte that stands for a digit of the base: up to base 36 a digit or a letter, above it the byte itself.
 fn byte_in(base: u64, digit: u64) -> u8
     requires { (digit < base) × (base ≤ 256) }
-    ensures { result ≡ byteIn base digit }
+    ensures { result ≡ byte_within base digit }
 {
     if base > 36 {
         digit as u8

@@ -2,8 +2,8 @@
 ghost use Rattle.std.specs.Prelude.{◌≡◌, ◌+◌, ◌-◌, ◌/◌, ◌^◌, ◌<◌, ◌≤◌, not, ◌&&◌, replicate, if◌then◌else◌, Ok, Err, MatchResult, nat_eq, nat_le};
 ghost use Rattle.std.specs.Int.Digits.{number_from_digits_after};
 ghost use Rattle.layout.specs.Bytes.{is_of};
-ghost use Rattle.layout.specs.Slots.{read_slot, checkSlot, scanSlot, spell, givable, over};
-ghost use Rattle.fields.specs.Slots.{textSlot};
+ghost use Rattle.layout.specs.Slots.{read_slot, check_slot, scan_slot, spell, givable, over};
+ghost use Rattle.fields.specs.Slots.{text_slot};
 
 use crate::padded::Text;
 use crate::put::put_digits;
@@ -19,7 +19,7 @@ pub fn read_text(
     offset: u8,
     field: Text,
 ) -> Result<(u64, &[u8]), FieldFault>
-    ensures { MatchResult result (λ p. read_slot (textSlot field) letter offset line.now ≡ Ok (p.0, p.1.now)) (λ e. read_slot (textSlot field) letter offset line.now ≡ Err e) }
+    ensures { MatchResult result (λ p. read_slot (text_slot field) letter offset line.now ≡ Ok (p.0, p.1.now)) (λ e. read_slot (text_slot field) letter offset line.now ≡ Err e) }
 {
     match scan(line, field) {
         Err(index) => Err(FieldFault::Byte(spot_at(letter, offset, index))),
@@ -29,7 +29,7 @@ pub fn read_text(
 
 // Whether some line gives the text of that number in that field.
 pub fn check_text(value: u64, letter: u8, offset: u8, field: Text) -> Result<(), FieldFault>
-    ensures { result ≡ checkSlot (textSlot field) letter offset value }
+    ensures { result ≡ check_slot (text_slot field) letter offset value }
 {
     if comes_back(value, field) {
         Ok(())
@@ -40,7 +40,7 @@ pub fn check_text(value: u64, letter: u8, offset: u8, field: Text) -> Result<(),
 
 // Writes the text's bytes over those at the offset; where they do not fit, nothing.
 pub fn put_text(room: &mut [u8], offset: u8, field: Text, value: u64)
-    ensures { room.new ≡ over offset (spell (textSlot field) value) room.old }
+    ensures { room.new ≡ over offset (spell (text_slot field) value) room.old }
 {
     put_digits(
         room,
@@ -53,7 +53,7 @@ pub fn put_text(room: &mut [u8], offset: u8, field: Text, value: u64)
 
 // The number of the text at the front, or the place of the first byte that breaks its rule.
 fn scan(line: &[u8], field: Text) -> Result<u64, u8>
-    ensures { result ≡ scanSlot (textSlot field) line.now }
+    ensures { result ≡ scan_slot (text_slot field) line.now }
 {
     let mut value = 0;
     let mut spaced = false;
@@ -116,7 +116,7 @@ fn unfilled(value: u64, count: u8) -> u64
 
 // Whether the number's own bytes are read as that number.
 fn comes_back(value: u64, field: Text) -> bool
-    ensures { result ≡ givable (textSlot field) value }
+    ensures { result ≡ givable (text_slot field) value }
 {
     let mut bytes = [0u8; 8];
     put_text(&mut bytes, 0, field, value);

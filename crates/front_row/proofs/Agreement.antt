@@ -6,9 +6,9 @@ use Rattle.records.specs.declared.order.Order.{Order}
 use Rattle.store.specs.declared.refusal.InsertRefusal.{InsertRefusal}
 use Rattle.store.specs.declared.refusal.InsertRefusal.TheVariants.{Taken, Full}
 use Rattle.store.specs.declared.refusal.ReplaceRefusal.{ReplaceRefusal}
-use Rattle.store.specs.Models.{Model, holding, insertSays, inserted, replaceSays, replacing, removing, sweeping}
+use Rattle.store.specs.Models.{Model, holding, insert_says, inserted, replace_says, replacing, removing, sweeping}
 use Rattle.store.specs.Lists.{lookup, holds, placed, replaced, without, others}
-use Rattle.front_row.specs.Fronts.{key_of, matching, standing, fronted, taken, unfronted, cleared, sweptPlace, swept, Agrees, Backed}
+use Rattle.front_row.specs.Fronts.{key_of, matching, standing, fronted, taken, unfronted, cleared, swept_place, swept, Agrees, Backed}
 use Rattle.store.proofs.Lookups.{lookup-inserted, lookup-placed-other, lookup-replaced, lookup-replaced-other, lookup-without-other, lookup-others}
 
 -- a place does not hold something and nothing
@@ -113,7 +113,7 @@ agrees-cleared rows k o h =
     absurd (none-some {X = Order} (get_or cleared (k % 16) None) o (get_or-replicate 16 (k % 16) None None (mod-lt k (lit< tt))) entry.0)
 
 -- a place that still holds something after a sweep held it before, and the test spares it
-swept-place : (p : Order → Bool) (e : Option Order) (o : Order) → sweptPlace p e ≡ Some o → (e ≡ Some o) × (p o ≡ false)
+swept-place : (p : Order → Bool) (e : Option Order) (o : Order) → swept_place p e ≡ Some o → (e ≡ Some o) × (p o ≡ false)
 swept-place p None o h = absurd (none-some {X = Order} None o refl h)
 swept-place p (Some x) o h =
     ⊎_elim
@@ -121,11 +121,11 @@ swept-place p (Some x) o h =
     (λ t. let same : ◌≡◌ {A = Option Order} (Some x) (Some o) = rw t at h in (same, (let f : o ≡ x = cc in ap p f ∙ t)))
     (cases_Bool (p x))
 
-swept-entry : (p : Order → Bool) (places : List (Option Order)) (i : ℕ) → get_or (swept p places) i None ≡ sweptPlace p (get_or places i None)
+swept-entry : (p : Order → Bool) (places : List (Option Order)) (i : ℕ) → get_or (swept p places) i None ≡ swept_place p (get_or places i None)
 swept-entry p places i =
     ⊎_elim
-    (λ l. get_or-map (sweptPlace p) places i None None l)
-    (λ l. get_or_past (swept p places) i None (simp length-map l) ∙ ap (sweptPlace p) (sym (get_or_past places i None l)))
+    (λ l. get_or-map (swept_place p) places i None None l)
+    (λ l. get_or_past (swept p places) i None (simp length-map l) ∙ ap (swept_place p) (sym (get_or_past places i None l)))
     (cases_lt i (length places))
 
 agrees-swept : (p : Order → Bool) (places : List (Option Order)) (rows : List Order) → Agrees places rows → Agrees (swept p places) (others p rows)
@@ -149,7 +149,7 @@ moved before after rows later p q a = rw p (rw q a)
 
 -- after each call of the store below, by what it answered and left
 pub after-insert : (r : Order) (answer : Result (Unit {0}) InsertRefusal) (before after : List (Option Order)) (m n : Model Order) →
-    after ≡ taken answer r before → answer ≡ insertSays key_of r m → n ≡ inserted key_of r m → Agrees before m.rows → Agrees after n.rows
+    after ≡ taken answer r before → answer ≡ insert_says key_of r m → n ≡ inserted key_of r m → Agrees before m.rows → Agrees after n.rows
 after-insert r answer before after m n p e f a =
     ⊎_elim
     (λ t. refused Taken (rw t at e) (rw t at f))
@@ -167,7 +167,7 @@ after-insert r answer before after m n p e f a =
     refused w d g = moved before after m.rows n.rows (p ∙ ap (λ x. taken x r before) d) (ap (λ x. x.rows) g) a
 
 pub after-replace : (r : Order) (answer : Result (Unit {0}) ReplaceRefusal) (before after : List (Option Order)) (m n : Model Order) →
-    after ≡ taken answer r before → answer ≡ replaceSays key_of r m → n ≡ replacing key_of r m → Agrees before m.rows → Agrees after n.rows
+    after ≡ taken answer r before → answer ≡ replace_says key_of r m → n ≡ replacing key_of r m → Agrees before m.rows → Agrees after n.rows
 after-replace r answer before after m n p e f a =
     ⊎_elim
     (λ t. rest (fronted r before) (p ∙ ap (λ x. taken x r before) (rw t at e)) (agrees-replaced r before m.rows t a))

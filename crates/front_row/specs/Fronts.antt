@@ -34,13 +34,13 @@ abbrev pub cleared : List (Option Order)
 cleared = replicate 16 None
 
 -- a place left empty, if the test picks what it holds
-abbrev pub sweptPlace : (Order → Bool) → Option Order → Option Order
-sweptPlace p None = None
-sweptPlace p (Some o) = cond (p o) None (Some o)
+abbrev pub swept_place : (Order → Bool) → Option Order → Option Order
+swept_place p None = None
+swept_place p (Some o) = cond (p o) None (Some o)
 
 -- all places left empty whose order the test picks
 abbrev pub swept : (Order → Bool) → List (Option Order) → List (Option Order)
-swept p places = map (sweptPlace p) places
+swept p places = map (swept_place p) places
 
 -- what stands in front is what the list of all orders has under the same key
 unfoldable pub Agrees : List (Option Order) → List Order → Type 0

@@ -7,8 +7,8 @@ use Rattle.front_row.specs.declared.front_row.FrontRow.{FrontRow}
 use Rattle.front_row.specs.Fronts.{Agrees}
 
 -- the records held, and the limit
-abbrev pub modelOf : {S : Type 0} → Ghosts S Order → FrontRow S → Model Order
-modelOf s row = s.model row.below
+abbrev pub model_of : {S : Type 0} → Ghosts S Order → FrontRow S → Model Order
+model_of s row = s.model row.below
 
 -- the store below is ready, and the front agrees with it
 abbrev pub Ready : {S : Type 0} → Ghosts S Order → FrontRow S → Type 0
@@ -19,5 +19,5 @@ abbrev pub ahead_of : {S : Type 0} → Ghosts S Order → FrontRow S → ℕ →
 ahead_of s row = s.ahead row.below
 
 -- all that a front row means, over what the store below means
-abbrev pub rowOver : {S : Type 0} → Ghosts S Order → Ghosts (FrontRow S) Order
-rowOver s = record { model = modelOf s; ready = Ready s; ahead = ahead_of s }
+abbrev pub row_over : {S : Type 0} → Ghosts S Order → Ghosts (FrontRow S) Order
+row_over s = record { model = model_of s; ready = Ready s; ahead = ahead_of s }

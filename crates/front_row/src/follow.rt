@@ -1,7 +1,7 @@
 // The front follows the store below: what stands in front is what the store has.
 ghost use Rattle.std.specs.Prelude.{◌≡◌, List};
 ghost use Rattle.records.specs.declared.order.Order.{Order};
-ghost use Rattle.store.specs.Models.{insertSays, inserted, replaceSays, replacing, removing, sweeping};
+ghost use Rattle.store.specs.Models.{insert_says, inserted, replace_says, replacing, removing, sweeping};
 ghost use Rattle.front_row.specs.Fronts.{key_of, standing, taken, unfronted, cleared, swept, Agrees, Follows, Backed};
 
 use crate::front::Front;
@@ -21,7 +21,7 @@ impl Front {
     // After an insertion below, which answered what is passed.
     pub(crate) fn after_insert(&mut self, order: Order, answer: Result<(), InsertRefusal>)
         ensures places { self.new.places ≡ taken answer order self.old.places }
-        ensures agrees { Follows (λ m n. (answer ≡ insertSays key_of order m) × (n ≡ inserted key_of order m)) self.old.places self.new.places }
+        ensures agrees { Follows (λ m n. (answer ≡ insert_says key_of order m) × (n ≡ inserted key_of order m)) self.old.places self.new.places }
     {
         self.put_if(answer.is_ok(), order);
     }
@@ -29,7 +29,7 @@ impl Front {
     // After a replacement below, which answered what is passed.
     pub(crate) fn after_replace(&mut self, order: Order, answer: Result<(), ReplaceRefusal>)
         ensures places { self.new.places ≡ taken answer order self.old.places }
-        ensures agrees { Follows (λ m n. (answer ≡ replaceSays key_of order m) × (n ≡ replacing key_of order m)) self.old.places self.new.places }
+        ensures agrees { Follows (λ m n. (answer ≡ replace_says key_of order m) × (n ≡ replacing key_of order m)) self.old.places self.new.places }
     {
         self.put_if(answer.is_ok(), order);
     }

@@ -1,6 +1,6 @@
 // Sixteen places with an order or none each, an order at its key's remainder.
 ghost use Rattle.std.specs.Prelude.{◌≡◌, ◌%◌, if◌then◌else◌};
-ghost use Rattle.front_row.specs.Fronts.{standing, fronted, unfronted, cleared, sweptPlace, swept};
+ghost use Rattle.front_row.specs.Fronts.{standing, fronted, unfronted, cleared, swept_place, swept};
 
 use records::order::Order;
 use store::pick::Pick;
@@ -87,7 +87,7 @@ fn spare_all<P: Pick<Order>>(pick: &P, places: &mut [Option<Order>])
 
 // What a place holds after a sweep.
 fn spare<P: Pick<Order>>(pick: &P, entry: Option<Order>) -> Option<Order>
-    ensures { result ≡ sweptPlace (P.Pick.picked pick.now) entry }
+    ensures { result ≡ swept_place (P.Pick.picked pick.now) entry }
 {
     match entry {
         Some(order) if !pick.picks(order) => entry,

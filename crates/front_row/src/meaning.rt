@@ -1,11 +1,11 @@
 // The front row is a store: it means what the store below means.
 ghost use Rattle.std.specs.Prelude.{◌≡◌, map, Some};
 ghost use Rattle.records.specs.declared.order.Order.{Order};
-ghost use Rattle.tally.specs.Joining.{joinedAll};
+ghost use Rattle.tally.specs.Joining.{joined_all};
 ghost use Rattle.store.specs.Lists.{lookup, those};
-ghost use Rattle.store.specs.Models.{insertSays, inserted, replaceSays, replacing, removing, sweeping, emptied};
+ghost use Rattle.store.specs.Models.{insert_says, inserted, replace_says, replacing, removing, sweeping, emptied};
 ghost use Rattle.front_row.specs.Fronts.{key_of, standing, taken, unfronted, cleared, swept};
-ghost use Rattle.front_row.specs.Rows.{modelOf, ahead_of, Ready};
+ghost use Rattle.front_row.specs.Rows.{model_of, ahead_of, Ready};
 
 use crate::front_row::FrontRow;
 use records::order::Order;
@@ -17,7 +17,7 @@ use tally::measure::Measure;
 use tally::tally::Tally;
 
 impl<S: Store<Order>> Store<Order> for FrontRow<S> {
-    ghost model = { modelOf S.Store };
+    ghost model = { model_of S.Store };
 
     ghost ready = { Ready S.Store };
 
@@ -32,7 +32,7 @@ impl<S: Store<Order>> Store<Order> for FrontRow<S> {
     }
 
     fn find(&self, key: u64) -> Option<Order>
-        ensures says { Ready S.Store self.now → result ≡ lookup key_of key (modelOf S.Store self.now).rows }
+        ensures says { Ready S.Store self.now → result ≡ lookup key_of key (model_of S.Store self.now).rows }
         ensures front { (o : Order) → Some o ≡ standing self.now.front.places key → result ≡ Some o }
     {
         match self.front.found(key) {
@@ -50,8 +50,8 @@ impl<S: Store<Order>> Store<Order> for FrontRow<S> {
     }
 
     fn insert(&mut self, item: Order) -> Result<(), InsertRefusal>
-        ensures says { Ready S.Store self.old → result ≡ insertSays key_of item (modelOf S.Store self.old) }
-        ensures leaves { Ready S.Store self.old → modelOf S.Store self.new ≡ inserted key_of item (modelOf S.Store self.old) }
+        ensures says { Ready S.Store self.old → result ≡ insert_says key_of item (model_of S.Store self.old) }
+        ensures leaves { Ready S.Store self.old → model_of S.Store self.new ≡ inserted key_of item (model_of S.Store self.old) }
         ensures still { Ready S.Store self.old → Ready S.Store self.new }
         ensures front { self.new.front.places ≡ taken result item self.old.front.places }
     {
@@ -61,8 +61,8 @@ impl<S: Store<Order>> Store<Order> for FrontRow<S> {
     }
 
     fn replace(&mut self, item: Order) -> Result<(), ReplaceRefusal>
-        ensures says { Ready S.Store self.old → result ≡ replaceSays key_of item (modelOf S.Store self.old) }
-        ensures leaves { Ready S.Store self.old → modelOf S.Store self.new ≡ replacing key_of item (modelOf S.Store self.old) }
+        ensures says { Ready S.Store self.old → result ≡ replace_says key_of item (model_of S.Store self.old) }
+        ensures leaves { Ready S.Store self.old → model_of S.Store self.new ≡ replacing key_of item (model_of S.Store self.old) }
         ensures still { Ready S.Store self.old → Ready S.Store self.new }
         ensures front { self.new.front.places ≡ taken result item self.old.front.places }
     {
@@ -72,8 +72,8 @@ impl<S: Store<Order>> Store<Order> for FrontRow<S> {
     }
 
     fn remove(&mut self, key: u64) -> Option<Order>
-        ensures says { Ready S.Store self.old → result ≡ lookup key_of key (modelOf S.Store self.old).rows }
-        ensures leaves { Ready S.Store self.old → modelOf S.Store self.new ≡ removing key_of key (modelOf S.Store self.old) }
+        ensures says { Ready S.Store self.old → result ≡ lookup key_of key (model_of S.Store self.old).rows }
+        ensures leaves { Ready S.Store self.old → model_of S.Store self.new ≡ removing key_of key (model_of S.Store self.old) }
         ensures still { Ready S.Store self.old → Ready S.Store self.new }
         ensures front { self.new.front.places ≡ unfronted key self.old.front.places }
     {
@@ -83,7 +83,7 @@ impl<S: Store<Order>> Store<Order> for FrontRow<S> {
     }
 
     fn empty(&mut self)
-        ensures leaves { modelOf S.Store self.new ≡ emptied (modelOf S.Store self.old) }
+        ensures leaves { model_of S.Store self.new ≡ emptied (model_of S.Store self.old) }
         ensures still { Ready S.Store self.new }
         ensures front { self.new.front.places ≡ cleared }
     {
@@ -92,8 +92,8 @@ impl<S: Store<Order>> Store<Order> for FrontRow<S> {
     }
 
     fn sweep<P: Pick<Order>, M: Measure<Order>>(&mut self, pick: &P, measure: &M) -> M::Out
-        ensures says { Ready S.Store self.old → result ≡ joinedAll M.Out.Tally.none M.Out.Tally.joining (map (M.Measure.given measure.now) (those (P.Pick.picked pick.now) (modelOf S.Store self.old).rows)) }
-        ensures leaves { Ready S.Store self.old → modelOf S.Store self.new ≡ sweeping (P.Pick.picked pick.now) (modelOf S.Store self.old) }
+        ensures says { Ready S.Store self.old → result ≡ joined_all M.Out.Tally.none M.Out.Tally.joining (map (M.Measure.given measure.now) (those (P.Pick.picked pick.now) (model_of S.Store self.old).rows)) }
+        ensures leaves { Ready S.Store self.old → model_of S.Store self.new ≡ sweeping (P.Pick.picked pick.now) (model_of S.Store self.old) }
         ensures still { Ready S.Store self.old → Ready S.Store self.new }
         ensures front { self.new.front.places ≡ swept (P.Pick.picked pick.now) self.old.front.places }
     {

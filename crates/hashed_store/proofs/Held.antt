@@ -4,7 +4,7 @@ use Rattle.store.specs.Lists.{Each, placed}
 use Rattle.store.proofs.Each.{Absent, each-front, each_back}
 use Rattle.hashed_store.specs.declared.slot.Slot.{Slot}
 use Rattle.hashed_store.specs.declared.slot.Slot.TheVariants.{Empty, Held}
-use Rattle.hashed_store.specs.Slots.{heldIn, held, sorted, Apart, slot_at}
+use Rattle.hashed_store.specs.Slots.{held_in, held, sorted, Apart, slot_at}
 use Rattle.hashed_store.proofs.Sorted.{sorted-among, apart_in, apart_out, absent-out}
 
 module _ {X : Type 0} where
@@ -12,24 +12,24 @@ module _ {X : Type 0} where
   before : List (Slot X) → ℕ → List X
   before [] i = []
   before (s ∷ ss) zero = []
-  before (s ∷ ss) (suc i) = heldIn s ++ before ss i
+  before (s ∷ ss) (suc i) = held_in s ++ before ss i
 
   after : List (Slot X) → ℕ → List X
   after [] i = []
   after (s ∷ ss) zero = held ss
   after (s ∷ ss) (suc i) = after ss i
 
-  held-set : (ss : List (Slot X)) (i : ℕ) (s : Slot X) → i < length ss → held (set ss i s) ≡ before ss i ++ (heldIn s ++ after ss i)
+  held-set : (ss : List (Slot X)) (i : ℕ) (s : Slot X) → i < length ss → held (set ss i s) ≡ before ss i ++ (held_in s ++ after ss i)
   unfolding before after
   held-set [] i s h = absurd (omega arith)
   held-set (q ∷ ss) zero s h = refl
-  held-set (q ∷ ss) (suc i) s h = ap (λ t. heldIn q ++ t) (held-set ss i s (omega arith)) ∙ sym (append_assoc (heldIn q) (before ss i) (heldIn s ++ after ss i))
+  held-set (q ∷ ss) (suc i) s h = ap (λ t. held_in q ++ t) (held-set ss i s (omega arith)) ∙ sym (append_assoc (held_in q) (before ss i) (held_in s ++ after ss i))
 
-  held_at : (ss : List (Slot X)) (i : ℕ) (s : Slot X) → i < length ss → slot_at ss i ≡ s → held ss ≡ before ss i ++ (heldIn s ++ after ss i)
+  held_at : (ss : List (Slot X)) (i : ℕ) (s : Slot X) → i < length ss → slot_at ss i ≡ s → held ss ≡ before ss i ++ (held_in s ++ after ss i)
   unfolding before after
   held_at [] i s h e = absurd (omega arith)
-  held_at (q ∷ ss) zero s h e = ap (λ t. heldIn t ++ held ss) e
-  held_at (q ∷ ss) (suc i) s h e = ap (λ t. heldIn q ++ t) (held_at ss i s (omega arith) e) ∙ sym (append_assoc (heldIn q) (before ss i) (heldIn s ++ after ss i))
+  held_at (q ∷ ss) zero s h e = ap (λ t. held_in t ++ held ss) e
+  held_at (q ∷ ss) (suc i) s h e = ap (λ t. held_in q ++ t) (held_at ss i s (omega arith) e) ∙ sym (append_assoc (held_in q) (before ss i) (held_in s ++ after ss i))
 
   -- what holds of each record held, and of the record at each place
   pub each-held : (P : X → Type 0) (ss : List (Slot X)) → ((i : ℕ) (r : X) → i < length ss → slot_at ss i ≡ Held r → P r) → Each P (held ss)

@@ -11,11 +11,11 @@ use Rattle.store.proofs.Placed.{lookup-placed, without-placed, replaced-placed}
 use Rattle.hashed_store.specs.declared.slot.Slot.{Slot}
 use Rattle.hashed_store.specs.declared.slot.Slot.TheVariants.{Empty, Held}
 use Rattle.hashed_store.specs.Rounds.{around}
-use Rattle.hashed_store.specs.Slots.{held, recordIn, sorted, Apart, slot_at, home_of, Passed, Other}
+use Rattle.hashed_store.specs.Slots.{held, record_in, sorted, Apart, slot_at, home_of, Passed, Other}
 use Rattle.hashed_store.specs.Looks.{HasKey}
 use Rattle.hashed_store.specs.Ways.{WentHere, WentToGap}
 use Rattle.hashed_store.specs.Holes.{Kept, Holed, Filled}
-use Rattle.hashed_store.specs.Places.{rows_of, modelOf, span_of, PutIn, NotPut, Exchanged, Out, NoKey, Removed, Cleared}
+use Rattle.hashed_store.specs.Places.{rows_of, model_of, span_of, PutIn, NotPut, Exchanged, Out, NoKey, Removed, Cleared}
 use Rattle.hashed_store.proofs.Sorted.{each-sorted, rising-sorted, length-sorted}
 use Rattle.hashed_store.proofs.Held.{taken_out, put_in, held-fewer, held-full, held-each}
 use Rattle.hashed_store.proofs.Rounds.{around-offset, offset-below}
@@ -38,14 +38,14 @@ module _ {X : Type 0} (key : X → ℕ) where
   size ss = length-sorted key (held ss)
 
   -- a model is its rows and its limit
-  modelled : {xs : List X} {n : ℕ} (is : List (Slot X)) → rows_of key is ≡ xs → length is ≡ n → modelOf key is ≡ record { rows = xs; limit = n }
+  modelled : {xs : List X} {n : ℕ} (is : List (Slot X)) → rows_of key is ≡ xs → length is ≡ n → model_of key is ≡ record { rows = xs; limit = n }
   modelled is e f = λ i. record { rows = e i; limit = f i }
 
   pub record FoundAt (ss : List (Slot X)) (k i : ℕ) : Type 0 where
     pub found : X
     pub is : slot_at ss i ≡ Held found
     pub same : key found ≡ k
-    pub looked : lookup key k (rows_of key ss) ≡ recordIn (slot_at ss i)
+    pub looked : lookup key k (rows_of key ss) ≡ record_in (slot_at ss i)
     pub held-there : holds key k (rows_of key ss) ≡ true
 
   pub found_at : (ss : List (Slot X)) (k i : ℕ) → Apart key (held ss) → WentHere key ss k i → FoundAt ss k i
@@ -56,7 +56,7 @@ module _ {X : Type 0} (key : X → ℕ) where
       let seen : lookup key k (rows_of key ss) ≡ Some r =
       subst (λ z. lookup key z (rows_of key ss) ≡ Some r) f.1.1
       (ap (lookup key (key r)) out.rows ∙ lookup-placed key r (rows_of key (set ss i Empty)) (absent-rows (set ss i Empty) (key r) out.absent)) in
-      record { found = r; is = f.1.0; same = f.1.1; looked = seen ∙ sym (ap recordIn f.1.0); held-there = ap is_some seen }
+      record { found = r; is = f.1.0; same = f.1.1; looked = seen ∙ sym (ap record_in f.1.0); held-there = ap is_some seen }
 
   pub missed-gap : (ss : List (Slot X)) (reach k i t : ℕ) → Kept key ss reach → WentToGap key ss k i t → Absent key k (held ss)
   missed-gap ss reach k i t kept w =
@@ -176,18 +176,18 @@ module _ {X : Type 0} (key : X → ℕ) where
         kept = done.kept;
       }
 
-  pub taken-key : (ss is : List (Slot X)) (reach k i : ℕ) (o : Option X) → WentHere key ss k i → o ≡ recordIn (slot_at ss i)
+  pub taken-key : (ss is : List (Slot X)) (reach k i : ℕ) (o : Option X) → WentHere key ss k i → o ≡ record_in (slot_at ss i)
       → ((r : X) → slot_at ss i ≡ Held r → Kept key ss reach → Out key r reach ss is) → Removed key k reach ss is o
   taken-key ss is reach k i None w e out = λ kept.
       let f = found_at ss k i kept.apart w in
-      let e2 = e ∙ ap recordIn f.is in
+      let e2 = e ∙ ap record_in f.is in
       let z : ◌≡◌ {A = ℕ} 0 1 = cc in absurd (omega arith)
   taken-key ss is reach k i (Some r) w e out = λ kept.
       let f = found_at ss k i kept.apart w in
       let done = out f.found f.is kept in
       record {
         says = e ∙ sym f.looked;
-        leaves = subst (λ z. modelOf key is ≡ removing key z (modelOf key ss)) f.same done.leaves;
+        leaves = subst (λ z. model_of key is ≡ removing key z (model_of key ss)) f.same done.leaves;
         count = done.count;
         kept = done.kept;
       }

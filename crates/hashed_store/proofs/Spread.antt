@@ -7,16 +7,16 @@ use Rattle.hashed_store.specs.Slots.{slot_at, home_of, strayed}
 use Rattle.hashed_store.proofs.Rounds.{offset-back, offset-other}
 
 module _ {X : Type 0} (key : X → ℕ) (n : ℕ) where
-  strayedIn : ℕ → Slot X → ℕ
-  strayedIn i Empty = 0
-  strayedIn i (Held r) = strayed key n i r
+  strayed_in : ℕ → Slot X → ℕ
+  strayed_in i Empty = 0
+  strayed_in i (Held r) = strayed key n i r
 
   -- of the slots from the place b on
   pub spread : ℕ → List (Slot X) → ℕ
   spread b [] = 0
-  spread b (s ∷ ss) = strayedIn b s + spread (suc b) ss
+  spread b (s ∷ ss) = strayed_in b s + spread (suc b) ss
 
-  spread-set : (b : ℕ) (ss : List (Slot X)) (j : ℕ) (s : Slot X) → j < length ss → spread b (set ss j s) + strayedIn (b + j) (slot_at ss j) ≡ spread b ss + strayedIn (b + j) s
+  spread-set : (b : ℕ) (ss : List (Slot X)) (j : ℕ) (s : Slot X) → j < length ss → spread b (set ss j s) + strayed_in (b + j) (slot_at ss j) ≡ spread b ss + strayed_in (b + j) s
   unfolding spread
   spread-set b [] j s h = absurd (omega arith)
   spread-set b (q ∷ ss) zero s h = simp add-zero (omega arith)
@@ -27,7 +27,7 @@ module _ {X : Type 0} (key : X → ℕ) (n : ℕ) where
 
   pub spread-falls : (ss : List (Slot X)) (h j : ℕ) (r : X) → length ss ≡ n → h < n → j < n → (j ≡ h → ⊥) → slot_at ss j ≡ Held r
       → offset n h j ≤ strayed key n j r → spread 0 (set (set ss j Empty) h (Held r)) < spread 0 ss
-  unfolding strayedIn
+  unfolding strayed_in
   spread-falls ss h j r size lh lj apart from over =
       let some : 0 < n = omega arith in
       let home = mod-lt (key r) some in

@@ -1,6 +1,6 @@
 -- Sweeping the slots, one picked record after another.
 use Rattle.std.proofs.Common.{◌≡◌, ℕ, suc, ◌<◌, ◌≤◌, Bool, true, false, List, [], ◌∷◌, map, length, sym, refl, ap, ◌∙◌, arith}
-use Rattle.tally.specs.Joining.{joinedAll}
+use Rattle.tally.specs.Joining.{joined_all}
 use Rattle.store.specs.Lists.{Each, those, others}
 use Rattle.store.proofs.Sweeps.{takings-none, takings-placed, others-placed, others-all}
 use Rattle.hashed_store.specs.declared.slot.Slot.{Slot}
@@ -19,7 +19,7 @@ pub record Going {X M : Type 0} (key : X → ℕ) (p : X → Bool) (given : X �
   pub slots : length is ≡ length was
   pub count : left ≡ length (rows_of key is)
   pub rows : others p (rows_of key is) ≡ others p (rows_of key was)
-  pub total : joining t (joinedAll none joining (map given (those p (rows_of key is)))) ≡ joinedAll none joining (map given (those p (rows_of key was)))
+  pub total : joining t (joined_all none joining (map given (those p (rows_of key is)))) ≡ joined_all none joining (map given (those p (rows_of key was)))
 
 module _ {X M : Type 0} (key : X → ℕ) (p : X → Bool) (given : X → M) (none : M) (joining : M → M → M)
     (associative : (x y z : M) → joining (joining x y) z ≡ joining x (joining y z))
@@ -37,7 +37,7 @@ module _ {X M : Type 0} (key : X → ℕ) (p : X → Bool) (given : X → M) (no
         count = let a = go.count in let b = out.count in omega arith;
         rows = sym (others-placed p key r (rows_of key is) pick) ∙ sym (ap (others p) out.back) ∙ go.rows;
         total = takings-placed p given none joining associative commutative neutral key t r (rows_of key is) pick
-            ∙ ap (λ xs. joining t (joinedAll none joining (map given (those p xs)))) (sym out.back) ∙ go.total;
+            ∙ ap (λ xs. joining t (joined_all none joining (map given (those p xs)))) (sym out.back) ∙ go.total;
       }
 
   -- where no record held is picked, it is done

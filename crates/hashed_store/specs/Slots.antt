@@ -6,18 +6,18 @@ use Rattle.hashed_store.specs.declared.slot.Slot.TheVariants.{Empty, Held}
 use Rattle.hashed_store.specs.Rounds.{around, offset}
 
 -- what one slot holds, and what all hold from the first to the last
-abbrev pub heldIn : {X : Type 0} → Slot X → List X
-heldIn Empty = []
-heldIn (Held r) = r ∷ []
+abbrev pub held_in : {X : Type 0} → Slot X → List X
+held_in Empty = []
+held_in (Held r) = r ∷ []
 
 abbrev pub held : {X : Type 0} → List (Slot X) → List X
 held [] = []
-held (s ∷ ss) = heldIn s ++ held ss
+held (s ∷ ss) = held_in s ++ held ss
 
 -- the record that a slot holds, or none
-abbrev pub recordIn : {X : Type 0} → Slot X → Option X
-recordIn Empty = None
-recordIn (Held r) = Some r
+abbrev pub record_in : {X : Type 0} → Slot X → Option X
+record_in Empty = None
+record_in (Held r) = Some r
 
 -- the one of two records that is nearer to the key k from above
 abbrev pub nearer : {X : Type 0} → (X → ℕ) → ℕ → X → Option X → Option X

@@ -1,6 +1,6 @@
 -- Removing every record that a test picks from the slots.
 use Rattle.std.specs.Prelude.{◌≡◌, ℕ, ◌<◌, ◌≤◌, Bool, true, false, List, map, length, Some, None, Option}
-use Rattle.tally.specs.Joining.{joinedAll}
+use Rattle.tally.specs.Joining.{joined_all}
 use Rattle.store.specs.Lists.{those, others}
 use Rattle.hashed_store.specs.declared.slot.Slot.{Slot}
 use Rattle.hashed_store.specs.declared.slot.Slot.TheVariants.{Held}
@@ -22,7 +22,7 @@ NextPicked {X} p ss from None = (i : ℕ) (r : X) → from ≤ i → i < length 
 NextPicked p ss from (Some f) = Picked p ss f
 
 pub record Sweeping {X M : Type 0} (key : X → ℕ) (p : X → Bool) (given : X → M) (none : M) (joining : M → M → M) (reach : ℕ) (was is : List (Slot X)) (s : Swept M) : Type 0 where
-  pub total : s.given ≡ joinedAll none joining (map given (those p (rows_of key was)))
+  pub total : s.given ≡ joined_all none joining (map given (those p (rows_of key was)))
   pub rows : rows_of key is ≡ others p (rows_of key was)
   pub slots : length is ≡ length was
   pub kept : Kept key is reach

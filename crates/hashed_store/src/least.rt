@@ -1,6 +1,6 @@
 // Going through all slots: for the least key, for the next record, and to empty them.
 ghost use Rattle.std.specs.Prelude.{◌≡◌, length, drop};
-ghost use Rattle.store.specs.Lists.{firstFrom};
+ghost use Rattle.store.specs.Lists.{first_from};
 ghost use Rattle.store.specs.Visits.{Visited, Covers};
 ghost use Rattle.hashed_store.specs.Places.{rows_of, Cleared};
 ghost use Rattle.hashed_store.specs.Slots.{held, nearest};
@@ -12,7 +12,7 @@ use store::visit::Visit;
 
 // The record with the least key at or above one.
 pub(crate) fn least_from<R: Record>(slots: &[Slot<R>], key: u64) -> Option<R>
-    ensures { result ≡ firstFrom R.Record.key key (rows_of R.Record.key slots.now) }
+    ensures { result ≡ first_from R.Record.key key (rows_of R.Record.key slots.now) }
 {
     let mut best = None;
     for place in (0..slots.len()).rev() {

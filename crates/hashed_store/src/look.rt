@@ -1,7 +1,7 @@
 // What one slot says to a search.
 ghost use Rattle.std.specs.Prelude.{◌≡◌, ℕ, ◌<◌, length};
 ghost use Rattle.hashed_store.specs.Looks.{Looked, Crossing};
-ghost use Rattle.hashed_store.specs.Slots.{recordIn, slot_at};
+ghost use Rattle.hashed_store.specs.Slots.{record_in, slot_at};
 
 use crate::round::{home, steps};
 use crate::slot::Slot;
@@ -49,7 +49,7 @@ pub(crate) fn crosses<R: Record>(slots: &[Slot<R>], place: usize, distance: usiz
 // The record in the slot at a place.
 pub(crate) fn record_at<R: Record>(slots: &[Slot<R>], place: usize) -> Option<R>
     requires { place < length slots.now }
-    ensures { result ≡ recordIn (slot_at slots.now place) }
+    ensures { result ≡ record_in (slot_at slots.now place) }
 {
     let slot = slots[place];
     match slot {

@@ -1,7 +1,7 @@
 // The store's calls, each by a function over the lent slots.
 ghost use Rattle.std.specs.Prelude.{drop};
 ghost use Rattle.hashed_store.specs.Slots.{held};
-ghost use Rattle.hashed_store.specs.Places.{modelOf};
+ghost use Rattle.hashed_store.specs.Places.{model_of};
 ghost use Rattle.hashed_store.specs.Stores.{InOrder};
 
 use crate::hashed::HashedStore;
@@ -16,7 +16,7 @@ use store::visit::Visit;
 use tally::measure::Measure;
 
 impl<'a, R: Record> Store<R> for HashedStore<'a, R> {
-    ghost model = { λ s. modelOf R.Record.key s.slots.now };
+    ghost model = { λ s. model_of R.Record.key s.slots.now };
 
     ghost ready = { λ s. InOrder R.Record.key s.slots.now s.count s.reach };
 

@@ -1,6 +1,6 @@
 // Removing every record that a test picks.
 ghost use Rattle.std.specs.Prelude.{◌≡◌, ◌≤◌, map, length};
-ghost use Rattle.tally.specs.Joining.{joinedAll};
+ghost use Rattle.tally.specs.Joining.{joined_all};
 ghost use Rattle.hashed_store.specs.Sweeps.{NextPicked, SweptOut};
 
 use crate::look::record_at;

@@ -14,10 +14,10 @@ pow-least : (b n : ℕ) → 2 ≤ b → 0 < b ^ n
 pow-least b n h = one-le-pow n b (omega arith)
 
 -- a number after others: they are shifted up
-pub numberAfter-is : (b a : ℕ) (ds : List ℕ) → number_from_digits_after b a ds ≡ a * b ^ length ds + number_from_digits b ds
-numberAfter-is b a [] = rw (pow-zero, mul-one, add-zero)
-numberAfter-is b a (d ∷ ds) =
-    numberAfter-is b (a * b + d) ds ∙ rw (numberAfter-is b (0 * b + d) ds, pow-suc, zero-mul, zero-add, add-mul, mul_comm (b ^ length ds) b, mul_assoc, add_assoc)
+pub number_after-is : (b a : ℕ) (ds : List ℕ) → number_from_digits_after b a ds ≡ a * b ^ length ds + number_from_digits b ds
+number_after-is b a [] = rw (pow-zero, mul-one, add-zero)
+number_after-is b a (d ∷ ds) =
+    number_after-is b (a * b + d) ds ∙ rw (number_after-is b (0 * b + d) ds, pow-suc, zero-mul, zero-add, add-mul, mul_comm (b ^ length ds) b, mul_assoc, add_assoc)
 
 pub length_digits : (b n v : ℕ) → length (digits b n v) ≡ n
 unfolding digits
@@ -33,7 +33,7 @@ pub number_digits : (b n v : ℕ) → 2 ≤ b → number_from_digits b (digits b
 unfolding digits
 number_digits b zero v h = rw (pow-zero, mod-one)
 number_digits b (suc n) v h =
-    numberAfter-is b (0 * b + v / b ^ n % b) (digits b n v) ∙ rw (length_digits b n v, number_digits b n v h, zero-mul, zero-add, pow-suc, mul_comm (b ^ n) b)
+    number_after-is b (0 * b + v / b ^ n % b) (digits b n v) ∙ rw (length_digits b n v, number_digits b n v h, zero-mul, zero-add, pow-suc, mul_comm (b ^ n) b)
     (sym (mod-mul v (omega arith) (pow-least b n h)))
 
 -- digits of one length with one number are the same
@@ -44,8 +44,8 @@ same_digits b (x ∷ xs) [] h u w l e = absurd (omega arith)
 same_digits b (x ∷ xs) (y ∷ ys) h u w l e =
     let long : length ys ≡ length xs = omega arith in
     let small = subst (λ (k : ℕ). number_from_digits b ys < b ^ k) long (number_lt b ys w.1) in
-    let left : number_from_digits b (x ∷ xs) ≡ x * b ^ length xs + number_from_digits b xs = numberAfter-is b (0 * b + x) xs ∙ rw (zero-mul, zero-add) in
-    let right : number_from_digits b (y ∷ ys) ≡ y * b ^ length xs + number_from_digits b ys = numberAfter-is b (0 * b + y) ys ∙ rw (long, zero-mul, zero-add) in
+    let left : number_from_digits b (x ∷ xs) ≡ x * b ^ length xs + number_from_digits b xs = number_after-is b (0 * b + x) xs ∙ rw (zero-mul, zero-add) in
+    let right : number_from_digits b (y ∷ ys) ≡ y * b ^ length xs + number_from_digits b ys = number_after-is b (0 * b + y) ys ∙ rw (long, zero-mul, zero-add) in
     let both = sym left ∙ e ∙ right in
     let heads : x ≡ y = sym (digits_div x (number_lt b xs u.1)) ∙ ap (λ n. n / b ^ length xs) both ∙ digits_div y small in
     let rests : number_from_digits b xs ≡ number_from_digits b ys = sym (digits_mod x (number_lt b xs u.1)) ∙ ap (λ n. n % b ^ length xs) both ∙ digits_mod y small in

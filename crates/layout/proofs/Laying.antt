@@ -4,8 +4,8 @@ use Rattle.std.proofs.lemmas.List.{take_all, length-take-le, length-drop, drop-d
 use Rattle.std.proofs.lemmas.Bool.{and_parts, and_right, eqb-true, lt-ltb, cases_Bool}
 use Rattle.layout.specs.declared.fault.FieldFault.{FieldFault}
 use Rattle.layout.specs.declared.fault.FieldFault.TheVariants.{Byte, Range}
-use Rattle.layout.specs.Slots.{Slot, width, Spells, keeps, Passes, value_of, in_range, scanSlot, ranged, read_slot, spot, origin}
-use Rattle.layout.specs.Fields.{Field, part, Laid, BreaksAt, OutOfRange, FirstFault, byte, range, later, before, thenRead, readFields}
+use Rattle.layout.specs.Slots.{Slot, width, Spells, keeps, Passes, value_of, in_range, scan_slot, ranged, read_slot, spot, origin}
+use Rattle.layout.specs.Fields.{Field, part, Laid, BreaksAt, OutOfRange, FirstFault, byte, range, later, before, then_read, read_fields}
 use Rattle.layout.proofs.Reading.{Found, scan-found, scan-part, scan-passes, scan-stops}
 use Rattle.layout.proofs.Sound.{sound}
 use Rattle.layout.proofs.Spelling.{Lawful, lawful, holds-all, keeps-all}
@@ -41,19 +41,19 @@ module _ (s : Slot) (laws : Lawful s) (letter offset : ℕ) (ys : List ℕ) (wit
   pub reads-spelled : (v : ℕ) → Spells s (take (width s) ys) v → read_slot s letter offset ys ≡ Ok (v, drop (width s) ys)
   reads-spelled v h =
       let walk = scan-passes s (take (width s) ys) (holds-all s (take (width s) ys) (width s) (omega (arith, size)) (laws.passes _ v h)) in
-      let found : scanSlot s ys ≡ Ok v = scan-part s ys within ∙ walk ∙ ap (λ q. Ok (value_of s q)) all_own ∙ ap Ok (laws.value _ v h) in
+      let found : scan_slot s ys ≡ Ok v = scan-part s ys within ∙ walk ∙ ap (λ q. Ok (value_of s q)) all_own ∙ ap Ok (laws.value _ v h) in
       rw (found, laws.inside _ v h)
 
   pub reads-break : (i : ℕ) → BreaksAt s (take (width s) ys) i → read_slot s letter offset ys ≡ Err (Byte (spot letter offset i))
   reads-break i h =
       let q = take (width s) ys in
-      let found : scanSlot s ys ≡ Err i = scan-part s ys within ∙ scan-stops s q i (h.0, holds-all s q i (omega (arith, size, h.0)) h.1, and_right (ltb i (length q)) (keeps s q i) h.2) in
+      let found : scan_slot s ys ≡ Err i = scan-part s ys within ∙ scan-stops s q i (h.0, holds-all s q i (omega (arith, size, h.0)) h.1, and_right (ltb i (length q)) (keeps s q i) h.2) in
       rw found
 
   pub reads-out : OutOfRange s (take (width s) ys) → read_slot s letter offset ys ≡ Err (Range (origin letter offset))
   reads-out h =
       let q = take (width s) ys in
-      let found : scanSlot s ys ≡ Ok (value_of s q) = scan-part s ys within ∙ scan-passes s q (holds-all s q (width s) (omega (arith, size)) h.0) ∙ ap (λ p. Ok (value_of s p)) all_own in
+      let found : scan_slot s ys ≡ Ok (value_of s q) = scan-part s ys within ∙ scan-passes s q (holds-all s q (width s) (omega (arith, size)) h.0) ∙ ap (λ p. Ok (value_of s p)) all_own in
       rw (found, h.1)
 
   -- what the answer says of the field's bytes
@@ -76,7 +76,7 @@ module _ (s : Slot) (laws : Lawful s) (letter offset : ℕ) (ys : List ℕ) (wit
       (i, refl, (h.0, keeps-all s _ i h.1, rw here at h.2))
 
   pub answers : Answers (read_slot s letter offset ys)
-  answers = rw (scan-part s ys within) (answers-found (scanSlot s (take (width s) ys)) (scan-found s (take (width s) ys)))
+  answers = rw (scan-part s ys within) (answers-found (scan_slot s (take (width s) ys)) (scan-found s (take (width s) ys)))
 
 -- All fields of a line xs, from o on.
 module _ (letter : ℕ) (xs : List ℕ) where
@@ -97,23 +97,23 @@ module _ (letter : ℕ) (xs : List ℕ) where
   outcomes-before f fs v h (Ok vs) l = (h, l)
   outcomes-before f fs v h (Err e) l = fault-later f fs v h e l
 
-  outcomes-then : (f : Field) (fs : List Field) (laws : Lawful f.slot) (within : width f.slot ≤ length (drop f.offset xs)) (r : Result (ℕ × List ℕ) FieldFault) → Answers f.slot laws letter f.offset (drop f.offset xs) within r → Outcomes fs (readFields letter fs (drop (width f.slot) (drop f.offset xs))) → Outcomes (f ∷ fs) (thenRead r (readFields letter fs))
-  outcomes-then f fs laws within (Ok p) a l = outcomes-before f fs p.0 a.0 (readFields letter fs p.1) (rw a.1 l)
+  outcomes-then : (f : Field) (fs : List Field) (laws : Lawful f.slot) (within : width f.slot ≤ length (drop f.offset xs)) (r : Result (ℕ × List ℕ) FieldFault) → Answers f.slot laws letter f.offset (drop f.offset xs) within r → Outcomes fs (read_fields letter fs (drop (width f.slot) (drop f.offset xs))) → Outcomes (f ∷ fs) (then_read r (read_fields letter fs))
+  outcomes-then f fs laws within (Ok p) a l = outcomes-before f fs p.0 a.0 (read_fields letter fs p.1) (rw a.1 l)
   outcomes-then f fs laws within (Err (Byte at)) a l = rw a.1 (refl, byte a.0 a.2)
   outcomes-then f fs laws within (Err (Range at)) a l = rw a.0 (refl, range a.1)
 
-  pub outcomes : (o : ℕ) (fs : List Field) (end : ℕ) → tiled o fs end ≡ true → end ≤ length xs → Outcomes fs (readFields letter fs (drop o xs))
+  pub outcomes : (o : ℕ) (fs : List Field) (end : ℕ) → tiled o fs end ≡ true → end ≤ length xs → Outcomes fs (read_fields letter fs (drop o xs))
   outcomes o [] end e le = tt
   outcomes o (f ∷ fs) end e le =
       let n = next o f fs end e in
       let past = tiled-le (o + width f.slot) fs end n.rest in
       let within : width f.slot ≤ length (drop f.offset xs) = simp length-drop (omega (arith, n.start)) in
       let rest : drop (width f.slot) (drop f.offset xs) ≡ drop (o + width f.slot) xs = drop-drop (width f.slot) f.offset xs ∙ ap (λ k. drop (k + width f.slot) xs) n.start in
-      subst (λ k. Outcomes (f ∷ fs) (readFields letter (f ∷ fs) (drop k xs))) n.start
+      subst (λ k. Outcomes (f ∷ fs) (read_fields letter (f ∷ fs) (drop k xs))) n.start
       (outcomes-then f fs n.laws within (read_slot f.slot letter f.offset (drop f.offset xs)) (answers f.slot n.laws letter f.offset (drop f.offset xs) within) (rw rest (outcomes (o + width f.slot) fs end n.rest le)))
 
   -- what is laid out so is read
-  pub reads-laid : (o : ℕ) (fs : List Field) (end : ℕ) → tiled o fs end ≡ true → end ≤ length xs → (vs : List ℕ) → Laid fs xs vs → readFields letter fs (drop o xs) ≡ Ok vs
+  pub reads-laid : (o : ℕ) (fs : List Field) (end : ℕ) → tiled o fs end ≡ true → end ≤ length xs → (vs : List ℕ) → Laid fs xs vs → read_fields letter fs (drop o xs) ≡ Ok vs
   reads-laid o [] end e le [] l = refl
   reads-laid o [] end e le (v ∷ vs) l = absurd l
   reads-laid o (f ∷ fs) end e le [] l = absurd l
@@ -130,12 +130,12 @@ module _ (letter : ℕ) (xs : List ℕ) where
   abbrev pub fault : ℕ → ℕ → FieldFault
   fault n o = cond (eqb n 4) (Byte (origin letter o)) (Range (origin letter o))
 
-  fault-step : (f : Field) (fs : List Field) (laws : Lawful f.slot) → width f.slot ≤ length (drop f.offset xs) → ((n e : ℕ) → FirstFault xs fs n e → readFields letter fs (drop (width f.slot) (drop f.offset xs)) ≡ Err (fault n e)) → {n e : ℕ} → FirstFault xs (f ∷ fs) n e → readFields letter (f ∷ fs) (drop f.offset xs) ≡ Err (fault n e)
+  fault-step : (f : Field) (fs : List Field) (laws : Lawful f.slot) → width f.slot ≤ length (drop f.offset xs) → ((n e : ℕ) → FirstFault xs fs n e → read_fields letter fs (drop (width f.slot) (drop f.offset xs)) ≡ Err (fault n e)) → {n e : ℕ} → FirstFault xs (f ∷ fs) n e → read_fields letter (f ∷ fs) (drop f.offset xs) ≡ Err (fault n e)
   fault-step f fs laws within more (byte i b) = rw (reads-break f.slot laws letter f.offset (drop f.offset xs) within i b)
   fault-step f fs laws within more (range b) = rw (reads-out f.slot laws letter f.offset (drop f.offset xs) within b)
   fault-step f fs laws within more {n} {e} (later v b h) = rw (reads-spelled f.slot laws letter f.offset (drop f.offset xs) within v b, more n e h)
 
-  pub reads-fault : (o : ℕ) (fs : List Field) (end : ℕ) → tiled o fs end ≡ true → end ≤ length xs → {n e : ℕ} → FirstFault xs fs n e → readFields letter fs (drop o xs) ≡ Err (fault n e)
+  pub reads-fault : (o : ℕ) (fs : List Field) (end : ℕ) → tiled o fs end ≡ true → end ≤ length xs → {n e : ℕ} → FirstFault xs fs n e → read_fields letter fs (drop o xs) ≡ Err (fault n e)
   reads-fault o [] end t le h = elim h [ ]
   reads-fault o (f ∷ fs) end t le h =
       let x = next o f fs end t in

@@ -4,8 +4,8 @@ use Rattle.std.proofs.lemmas.List.{take_at, drop_at, length-append, drop-drop}
 use Rattle.std.proofs.lemmas.Bool.{eqb-true, cases_Bool, both_ways}
 use Rattle.layout.specs.declared.fault.FieldFault.{FieldFault}
 use Rattle.layout.specs.declared.fault.FieldFault.TheVariants.{Byte, Range}
-use Rattle.layout.specs.Slots.{Slot, width, Spells, givable, spell, over, checkSlot, origin}
-use Rattle.layout.specs.Fields.{Field, part, Laid, FirstUngiven, here, later, checkFields, thenCheck, line_of, putFields}
+use Rattle.layout.specs.Slots.{Slot, width, Spells, givable, spell, over, check_slot, origin}
+use Rattle.layout.specs.Fields.{Field, part, Laid, FirstUngiven, here, later, check_fields, then_check, line_of, put_fields}
 use Rattle.layout.proofs.Laying.{tiled, next, tiled-le}
 use Rattle.layout.proofs.Spelling.{Lawful}
 use Rattle.layout.proofs.Writing.{take-over, drop-over, length_over}
@@ -40,15 +40,15 @@ line-laid xs o (f ∷ fs) end e (v ∷ vs) l =
     append_assoc (spell f.slot v) (line_of fs vs) (drop end xs) ∙ rw (more, first, rest) (take-append-drop (width f.slot) (drop o xs))
 
 -- the check passes just where some line gives the values; then the line of the values does
-checks : (f : Field) (letter v : ℕ) (rest : Result (Unit {0}) FieldFault) → givable f.slot v ≡ true → thenCheck (checkSlot f.slot letter f.offset v) rest ≡ rest
+checks : (f : Field) (letter v : ℕ) (rest : Result (Unit {0}) FieldFault) → givable f.slot v ≡ true → then_check (check_slot f.slot letter f.offset v) rest ≡ rest
 checks f letter v rest e = rw e
 
-pub laid-checks : (letter : ℕ) (xs : List ℕ) (o : ℕ) (fs : List Field) (end : ℕ) → tiled o fs end ≡ true → (vs : List ℕ) → Laid fs xs vs → checkFields letter fs vs ≡ Ok tt
+pub laid-checks : (letter : ℕ) (xs : List ℕ) (o : ℕ) (fs : List Field) (end : ℕ) → tiled o fs end ≡ true → (vs : List ℕ) → Laid fs xs vs → check_fields letter fs vs ≡ Ok tt
 laid-checks letter xs o [] end e vs l = refl
 laid-checks letter xs o (f ∷ fs) end e [] l = refl
 laid-checks letter xs o (f ∷ fs) end e (v ∷ vs) l =
     let n = next o f fs end e in
-    checks f letter v (checkFields letter fs vs) (n.laws.given _ v l.0) ∙ laid-checks letter xs (o + width f.slot) fs end n.rest vs l.1
+    checks f letter v (check_fields letter fs vs) (n.laws.given _ v l.0) ∙ laid-checks letter xs (o + width f.slot) fs end n.rest vs l.1
 
 -- what the check answers, of values as many as the fields
 module _ (letter : ℕ) where
@@ -67,19 +67,19 @@ module _ (letter : ℕ) where
   checked-more f fs v vs laws e (Err (Byte at)) h = h
   checked-more f fs v vs laws e (Err (Range at)) h = (h.0, later (spell f.slot v) (laws.gives v e) h.1)
 
-  pub checked : (o : ℕ) (fs : List Field) (end : ℕ) → tiled o fs end ≡ true → (vs : List ℕ) → Each fs vs → Checked fs vs (checkFields letter fs vs)
+  pub checked : (o : ℕ) (fs : List Field) (end : ℕ) → tiled o fs end ≡ true → (vs : List ℕ) → Each fs vs → Checked fs vs (check_fields letter fs vs)
   checked o [] end e [] m = λ o end t xs post line. tt
   checked o [] end e (v ∷ vs) m = absurd m
   checked o (f ∷ fs) end e [] m = absurd m
   checked o (f ∷ fs) end e (v ∷ vs) m =
       let n = next o f fs end e in
       ⊎_elim
-      (λ ok. rw (checks f letter v (checkFields letter fs vs) ok) (checked-more f fs v vs n.laws ok (checkFields letter fs vs) (checked (o + width f.slot) fs end n.rest vs m)))
+      (λ ok. rw (checks f letter v (check_fields letter fs vs) ok) (checked-more f fs v vs n.laws ok (check_fields letter fs vs) (checked (o + width f.slot) fs end n.rest vs m)))
       (λ bad. rw bad (refl, here (λ p h. both_ways (givable f.slot v) bad (n.laws.given p v h))))
       (cases_Bool (givable f.slot v))
 
 -- the fields written one by one are the line written whole
-pub put-line : (o : ℕ) (fs : List Field) (end : ℕ) → tiled o fs end ≡ true → (vs : List ℕ) → Each fs vs → (room : List ℕ) → end ≤ length room → putFields fs vs room ≡ take o room ++ (line_of fs vs ++ drop end room)
+pub put-line : (o : ℕ) (fs : List Field) (end : ℕ) → tiled o fs end ≡ true → (vs : List ℕ) → Each fs vs → (room : List ℕ) → end ≤ length room → put_fields fs vs room ≡ take o room ++ (line_of fs vs ++ drop end room)
 put-line o [] end e [] m room le = rw (← eqb-true o end e) (sym (take-append-drop o room))
 put-line o [] end e (v ∷ vs) m room le = absurd m
 put-line o (f ∷ fs) end e [] m room le = absurd m
@@ -99,10 +99,10 @@ put-line o (f ∷ fs) end e (v ∷ vs) m room le =
 ungiven : (s : Slot) → Lawful s → (v : ℕ) → ((p : List ℕ) → Spells s p v → ⊥) → givable s v ≡ false
 ungiven s laws v none = ⊎_elim (λ e. absurd (none (spell s v) (laws.gives v e))) (λ e. e) (cases_Bool (givable s v))
 
-check-step : (letter : ℕ) (f : Field) (fs : List Field) → Lawful f.slot → ((vs : List ℕ) (e : ℕ) → FirstUngiven fs vs e → checkFields letter fs vs ≡ Err (Range (origin letter e))) → {vs : List ℕ} {e : ℕ} → FirstUngiven (f ∷ fs) vs e → checkFields letter (f ∷ fs) vs ≡ Err (Range (origin letter e))
+check-step : (letter : ℕ) (f : Field) (fs : List Field) → Lawful f.slot → ((vs : List ℕ) (e : ℕ) → FirstUngiven fs vs e → check_fields letter fs vs ≡ Err (Range (origin letter e))) → {vs : List ℕ} {e : ℕ} → FirstUngiven (f ∷ fs) vs e → check_fields letter (f ∷ fs) vs ≡ Err (Range (origin letter e))
 check-step letter f fs laws more (here {v = v} none) = rw (ungiven f.slot laws v none)
-check-step letter f fs laws more (later {v = v} {o = o} {vs = vs} p h rest) = checks f letter v (checkFields letter fs vs) (laws.given p v h) ∙ more vs o rest
+check-step letter f fs laws more (later {v = v} {o = o} {vs = vs} p h rest) = checks f letter v (check_fields letter fs vs) (laws.given p v h) ∙ more vs o rest
 
-pub check-ungiven : (letter o : ℕ) (fs : List Field) (end : ℕ) → tiled o fs end ≡ true → {vs : List ℕ} {e : ℕ} → FirstUngiven fs vs e → checkFields letter fs vs ≡ Err (Range (origin letter e))
+pub check-ungiven : (letter o : ℕ) (fs : List Field) (end : ℕ) → tiled o fs end ≡ true → {vs : List ℕ} {e : ℕ} → FirstUngiven fs vs e → check_fields letter fs vs ≡ Err (Range (origin letter e))
 check-ungiven letter o [] end t h = elim h [ ]
 check-ungiven letter o (f ∷ fs) end t h = let x = next o f fs end t in check-step letter f fs x.laws (λ vs e g. check-ungiven letter (o + width f.slot) fs end x.rest g) h

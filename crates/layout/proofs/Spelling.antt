@@ -9,14 +9,14 @@ use Rattle.std.proofs.lemmas.List.{take_all, length-append, length-replicate, le
 use Rattle.std.proofs.lemmas.Bool.{and_parts, and_from, leb-true, le-leb, ltb-true, lt-ltb, eqb-true, eq-eqb, both_ways}
 use Rattle.std.proofs.lemmas.Bool.Decides.{nat_tests}
 use Rattle.layout.specs.declared.class.Class.{Class}
-use Rattle.layout.specs.Bytes.{worthOf, byteIn}
-use Rattle.layout.specs.Digits.{digits, digitBytes}
-use Rattle.layout.specs.Slots.{Slot, number, text, choice, width, Spells, SpellsNumber, SpellsText, keeps, holds, Passes, value_of, in_range, scanSlot, spell, givable, comesBack}
-use Rattle.layout.proofs.Digits.{under-digits, length_digits, number_digits, digits_number, numberAfter-is}
+use Rattle.layout.specs.Bytes.{worth_of, byte_within}
+use Rattle.layout.specs.Digits.{digits, digit_bytes}
+use Rattle.layout.specs.Slots.{Slot, number, text, choice, width, Spells, SpellsNumber, SpellsText, keeps, holds, Passes, value_of, in_range, scan_slot, spell, givable, is_read_again}
+use Rattle.layout.proofs.Digits.{under-digits, length_digits, number_digits, digits_number, number_after-is}
 use Rattle.layout.proofs.Padding.{padded-keeps, split-of, under-padded}
 use Rattle.layout.proofs.Reading.{Found, scan-found, scan-passes}
 use Rattle.layout.proofs.Sound.{sound}
-use Rattle.layout.proofs.Writing.{length-digitBytes}
+use Rattle.layout.proofs.Writing.{length-digit_bytes}
 
 -- What keeps the rule at every place of the field is walked over to its end.
 pub holds-all : (s : Slot) (p : List ℕ) (n : ℕ) → n ≤ length p → Passes (keeps s p) n → Passes (holds s p) n
@@ -39,24 +39,24 @@ pub record Lawful (s : Slot) : Type 0 where
   pub gives : (v : ℕ) → givable s v ≡ true → Spells s (spell s v) v
 
 -- A digit's byte is worth it, and the other way round.
-worth-byte : (b d : ℕ) → b ≤ 36 → d < b → worthOf (byteIn b d) ≡ d
-unfolding worthOf byteIn
+worth-byte : (b d : ℕ) → b ≤ 36 → d < b → worth_of (byte_within b d) ≡ d
+unfolding worth_of byte_within
 worth-byte b d le lt = grind (arith, nat_tests)
 
-byte_worth : (b x : ℕ) → b ≤ 36 → worthOf x < b → byteIn b (worthOf x) ≡ x
-unfolding worthOf byteIn
+byte_worth : (b x : ℕ) → b ≤ 36 → worth_of x < b → byte_within b (worth_of x) ≡ x
+unfolding worth_of byte_within
 byte_worth b x le lt = grind (arith, nat_tests)
 
 -- the same of lists
-bytes-worths : (b : ℕ) → b ≤ 36 → (p : List ℕ) → All (λ x. worthOf x < b) p → map (byteIn b) (map worthOf p) ≡ p
+bytes-worths : (b : ℕ) → b ≤ 36 → (p : List ℕ) → All (λ x. worth_of x < b) p → map (byte_within b) (map worth_of p) ≡ p
 bytes-worths b le [] h = refl
 bytes-worths b le (x ∷ p) h = let first = byte_worth b x le h.0 in let rest = bytes-worths b le p h.1 in cc
 
-worths-bytes : (b : ℕ) → b ≤ 36 → (ds : List ℕ) → AllBelowBase b ds → map worthOf (map (byteIn b) ds) ≡ ds
+worths-bytes : (b : ℕ) → b ≤ 36 → (ds : List ℕ) → AllBelowBase b ds → map worth_of (map (byte_within b) ds) ≡ ds
 worths-bytes b le [] h = refl
 worths-bytes b le (d ∷ ds) h = let first = worth-byte b d le h.0 in let rest = worths-bytes b le ds h.1 in cc
 
-under-bytes : (b : ℕ) → b ≤ 36 → (ds : List ℕ) → AllBelowBase b ds → All (λ x. worthOf x < b) (map (byteIn b) ds)
+under-bytes : (b : ℕ) → b ≤ 36 → (ds : List ℕ) → AllBelowBase b ds → All (λ x. worth_of x < b) (map (byte_within b) ds)
 under-bytes b le [] h = tt
 under-bytes b le (d ∷ ds) h = (rw (worth-byte b d le h.0) h.0, under-bytes b le ds h.1)
 
@@ -64,18 +64,18 @@ module _ (base count low high : ℕ) (two : 2 ≤ base) (few : base ≤ 36) (fit
   in-range : (v : ℕ) → low ≤ v → v ≤ high → (leb low v && leb v high) ≡ true
   in-range v l m = and_from (leb low v) (leb v high) (le-leb low v l) (le-leb v high m)
 
-  number-again : (p : List ℕ) (v : ℕ) → SpellsNumber base count low high p v → digitBytes base count v ≡ p
-  unfolding digitBytes
+  number-again : (p : List ℕ) (v : ℕ) → SpellsNumber base count low high p v → digit_bytes base count v ≡ p
+  unfolding digit_bytes
   number-again p v h =
-      let size : length (map worthOf p) ≡ count = length-map p worthOf ∙ h.size in
-      rw (← h.value, digits_number base count (map worthOf p) two (All-map (λ d. d < base) worthOf p h.digits) size) (bytes-worths base few p h.digits)
+      let size : length (map worth_of p) ≡ count = length-map p worth_of ∙ h.size in
+      rw (← h.value, digits_number base count (map worth_of p) two (All-map (λ d. d < base) worth_of p h.digits) size) (bytes-worths base few p h.digits)
 
-  number-gives : (v : ℕ) → low ≤ v → v ≤ high → SpellsNumber base count low high (digitBytes base count v) v
-  unfolding digitBytes
+  number-gives : (v : ℕ) → low ≤ v → v ≤ high → SpellsNumber base count low high (digit_bytes base count v) v
+  unfolding digit_bytes
   number-gives v l m =
       let small : v < base ^ count = omega arith in
       record {
-        size = length-map (digits base count v) (byteIn base) ∙ length_digits base count v;
+        size = length-map (digits base count v) (byte_within base) ∙ length_digits base count v;
         digits = under-bytes base few (digits base count v) (under-digits base count v two);
         value = ap (number_of base) (worths-bytes base few (digits base count v) (under-digits base count v two)) ∙ number_digits base count v two ∙ mod-eq_of_lt small;
         least = l;
@@ -86,32 +86,32 @@ module _ (base count low high : ℕ) (two : 2 ≤ base) (few : base ≤ 36) (fit
   unfolding value_of
   lawful-number = record {
     size = λ p v h. h.size;
-    passes = λ p v h j lt. lt-ltb (worthOf (get_or p j 0)) base (All-get_or (λ x. worthOf x < base) p j 0 (omega (arith, h.size)) h.digits);
+    passes = λ p v h j lt. lt-ltb (worth_of (get_or p j 0)) base (All-get_or (λ x. worth_of x < base) p j 0 (omega (arith, h.size)) h.digits);
     value = λ p v h. h.value;
     inside = λ p v h. in-range v h.least h.most;
     spells = λ p size h e.
-        let both = and_parts (leb low (number_of base (map worthOf p))) (leb (number_of base (map worthOf p)) high) e in
+        let both = and_parts (leb low (number_of base (map worth_of p))) (leb (number_of base (map worth_of p)) high) e in
         record {
           size = size;
-          digits = All-from_get_or (λ x. worthOf x < base) p 0 (λ i lt. ltb-true (worthOf (get_or p i 0)) base (h i (omega arith)));
+          digits = All-from_get_or (λ x. worth_of x < base) p 0 (λ i lt. ltb-true (worth_of (get_or p i 0)) base (h i (omega arith)));
           value = refl;
           least = leb-true low _ both.0;
           most = leb-true _ high both.1;
         };
     again = number-again;
-    long = λ v. length-digitBytes base count v;
+    long = λ v. length-digit_bytes base count v;
     given = λ p v h. in-range v h.least h.most;
     gives = λ v e. let both = and_parts (leb low v) (leb v high) e in number-gives v (leb-true low v both.0) (leb-true v high both.1);
   }
 
 module _ (k : Class) (least w whole : ℕ) (enough : least ≤ w) where
-  text-again : (p : List ℕ) (v : ℕ) → SpellsText k least w whole p v → digitBytes 256 w (v / 256 ^ (whole - w)) ≡ p
-  unfolding digitBytes byteIn
+  text-again : (p : List ℕ) (v : ℕ) → SpellsText k least w whole p v → digit_bytes 256 w (v / 256 ^ (whole - w)) ≡ p
+  unfolding digit_bytes byte_within
   text-again p v h =
       let pad = replicate (whole - w) 32 in
       let size : length pad ≡ whole - w = length-replicate (whole - w) 32 in
       let low : number_of 256 pad < 256 ^ (whole - w) = subst (λ n. number_of 256 pad < 256 ^ n) size (number_lt 256 pad (under-padded k [] (whole - w) tt)) in
-      let whole' : number_of 256 p * 256 ^ (whole - w) + number_of 256 pad ≡ v = ap (λ n. number_of 256 p * 256 ^ n + number_of 256 pad) (sym size) ∙ sym (numberAfter-is 256 (number_of 256 p) pad) ∙ sym (number_after_append 256 0 p pad) ∙ h.value in
+      let whole' : number_of 256 p * 256 ^ (whole - w) + number_of 256 pad ≡ v = ap (λ n. number_of 256 p * 256 ^ n + number_of 256 pad) (sym size) ∙ sym (number_after-is 256 (number_of 256 p) pad) ∙ sym (number_after_append 256 0 p pad) ∙ h.value in
       let high : v / 256 ^ (whole - w) ≡ number_of 256 p = ap (λ n. n / 256 ^ (whole - w)) (sym whole') ∙ digits_div (number_of 256 p) low in
       let under : AllBelowBase 256 p = subst (AllBelowBase 256) (sym h.split) (under-padded k h.name h.spaces h.inside) in
       rw (high, digits_number 256 w p (lit≤ tt) under h.size) (map-id p)
@@ -126,7 +126,7 @@ module _ (k : Class) (least w whole : ℕ) (enough : least ≤ w) where
   text-spells p size h = split-of k least w whole p (subst (Passes (keeps (text k least w whole) p)) (sym size) h) size enough
 
   -- what a walk over the number's own bytes finds
-  text-gives : (v : ℕ) (p : List ℕ) (r : Result ℕ ℕ) → length p ≡ w → Found (text k least w whole) p r → comesBack v r ≡ true → SpellsText k least w whole p v
+  text-gives : (v : ℕ) (p : List ℕ) (r : Result ℕ ℕ) → length p ≡ w → Found (text k least w whole) p r → is_read_again v r ≡ true → SpellsText k least w whole p v
   text-gives v p (Ok n) size h e =
       let whole' : take w p ≡ p = take_all w p (omega arith) in
       subst (SpellsText k least w whole p) (ap (value_of (text k least w whole)) (sym whole') ∙ h.1 ∙ eqb-true n v e) (text-spells p size (keeps-all (text k least w whole) p w h.0))
@@ -136,7 +136,7 @@ module _ (k : Class) (least w whole : ℕ) (enough : least ≤ w) where
   unfolding value_of
   text-given p v h =
       let whole' : take w p ≡ p = take_all w p (omega (arith, h.size)) in
-      let walked : scanSlot (text k least w whole) p ≡ Ok v = scan-passes (text k least w whole) p (holds-all (text k least w whole) p w (omega (arith, h.size)) (text-passes p v h)) ∙ rw whole' (ap Ok h.value) in
+      let walked : scan_slot (text k least w whole) p ≡ Ok v = scan-passes (text k least w whole) p (holds-all (text k least w whole) p w (omega (arith, h.size)) (text-passes p v h)) ∙ rw whole' (ap Ok h.value) in
       rw (text-again p v h, walked) (eq-eqb v v refl)
 
   pub lawful-text : Lawful (text k least w whole)
@@ -148,9 +148,9 @@ module _ (k : Class) (least w whole : ℕ) (enough : least ≤ w) where
     inside = λ p v h. refl;
     spells = λ p size h e. text-spells p size h;
     again = text-again;
-    long = λ v. length-digitBytes 256 w (v / 256 ^ (whole - w));
+    long = λ v. length-digit_bytes 256 w (v / 256 ^ (whole - w));
     given = text-given;
-    gives = λ v e. text-gives v (spell (text k least w whole) v) _ (length-digitBytes 256 w _) (scan-found (text k least w whole) (spell (text k least w whole) v)) e;
+    gives = λ v e. text-gives v (spell (text k least w whole) v) _ (length-digit_bytes 256 w _) (scan-found (text k least w whole) (spell (text k least w whole) v)) e;
   }
 
 one-item : (p : List ℕ) → length p ≡ 1 → p ≡ get_or p 0 0 ∷ []

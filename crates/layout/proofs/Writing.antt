@@ -2,19 +2,19 @@
 use Rattle.std.proofs.Common.{◌≡◌, ℕ, ◌+◌, ◌-◌, ◌/◌, ◌%◌, ◌^◌, ◌<◌, ◌≤◌, List, [], ◌∷◌, ◌++◌, length, get_or, take, drop, set, sym, refl, ap, ◌∙◌, append_assoc, add-one, arith}
 use Rattle.std.proofs.lemmas.List.{take_more, set_at, length-take-le, length-map, length-append, length-drop, take_at, drop_at, drop-drop}
 use Rattle.std.proofs.lemmas.Bool.{cond-true, cond-false, le-leb, lt-leb}
-use Rattle.layout.specs.Bytes.{byteIn}
-use Rattle.layout.specs.Digits.{digits, digitBytes}
-use Rattle.layout.specs.Slots.{Slot, width, scanSlot, over}
+use Rattle.layout.specs.Bytes.{byte_within}
+use Rattle.layout.specs.Digits.{digits, digit_bytes}
+use Rattle.layout.specs.Slots.{Slot, width, scan_slot, over}
 use Rattle.layout.proofs.Digits.{length_digits}
 use Rattle.layout.proofs.Reading.{scan-part}
 
-pub digitBytes-none : (b v : ℕ) → digitBytes b 0 v ≡ []
-unfolding digits digitBytes
-digitBytes-none b v = refl
+pub digit_bytes-none : (b v : ℕ) → digit_bytes b 0 v ≡ []
+unfolding digits digit_bytes
+digit_bytes-none b v = refl
 
-pub digitBytes-more : (b i v : ℕ) → digitBytes b (i + 1) v ≡ byteIn b (v / b ^ i % b) ∷ digitBytes b i v
-unfolding digits digitBytes
-digitBytes-more b i v = rw add-one
+pub digit_bytes-more : (b i v : ℕ) → digit_bytes b (i + 1) v ≡ byte_within b (v / b ^ i % b) ∷ digit_bytes b i v
+unfolding digits digit_bytes
+digit_bytes-more b i v = rw add-one
 
 -- one byte more before those that were written
 pub set_before : (xs ys : List ℕ) (k x : ℕ) → k < length xs → set (take (k + 1) xs ++ ys) k x ≡ take k xs ++ (x ∷ ys)
@@ -22,9 +22,9 @@ set_before xs ys k x lt =
     ap (λ zs. set (zs ++ ys) k x) (take_more xs k 0 lt) ∙ ap (λ zs. set zs k x) (append_assoc (take k xs) (get_or xs k 0 ∷ []) ys)
     ∙ set_at (take k xs) (get_or xs k 0) ys x k (length-take-le k xs (omega arith))
 
-pub length-digitBytes : (b n v : ℕ) → length (digitBytes b n v) ≡ n
-unfolding digitBytes
-length-digitBytes b n v = length-map (digits b n v) (byteIn b) ∙ length_digits b n v
+pub length-digit_bytes : (b n v : ℕ) → length (digit_bytes b n v) ≡ n
+unfolding digit_bytes
+length-digit_bytes b n v = length-map (digits b n v) (byte_within b) ∙ length_digits b n v
 
 module _ (o : ℕ) (p xs : List ℕ) where
   pub over-within : o + length p ≤ length xs → over o p xs ≡ take o xs ++ (p ++ drop (o + length p) xs)
@@ -57,8 +57,8 @@ module _ (o : ℕ) (p xs : List ℕ) (fits : o + length p ≤ length xs) where
   length_over = rw (parts, length-append, front, length-drop) (omega arith)
 
 -- a field that was written at the front is read there
-pub scan-over : (s : Slot) (p xs : List ℕ) → length p ≡ width s → width s ≤ length xs → scanSlot s (over 0 p xs) ≡ scanSlot s p
+pub scan-over : (s : Slot) (p xs : List ℕ) → length p ≡ width s → width s ≤ length xs → scan_slot s (over 0 p xs) ≡ scan_slot s p
 scan-over s p xs size within =
     let held : width s ≤ length (p ++ drop (0 + length p) xs) = simp length-append (omega arith) in
-    ap (scanSlot s) (over-within 0 p xs (omega arith)) ∙ scan-part s (p ++ drop (0 + length p) xs) held
-    ∙ ap (scanSlot s) (take_at p (drop (0 + length p) xs) (width s) size)
+    ap (scan_slot s) (over-within 0 p xs (omega arith)) ∙ scan-part s (p ++ drop (0 + length p) xs) held
+    ∙ ap (scan_slot s) (take_at p (drop (0 + length p) xs) (width s) size)

@@ -4,25 +4,25 @@ use Rattle.layout.specs.declared.class.Class.{Class}
 use Rattle.layout.specs.declared.class.Class.TheVariants.{Graphic, Letter}
 
 -- 0 to 9
-abbrev pub isDigit : ℕ → Bool
-isDigit x = nat_le 48 x && nat_le x 57
+abbrev pub is_digit : ℕ → Bool
+is_digit x = nat_le 48 x && nat_le x 57
 
 -- A to Z
-abbrev pub isLetter : ℕ → Bool
-isLetter x = nat_le 65 x && nat_le x 90
+abbrev pub is_letter : ℕ → Bool
+is_letter x = nat_le 65 x && nat_le x 90
 
 -- printable, and not a space
-abbrev pub isGraphic : ℕ → Bool
-isGraphic x = nat_le 33 x && nat_le x 126
+abbrev pub is_graphic : ℕ → Bool
+is_graphic x = nat_le 33 x && nat_le x 126
 
 abbrev pub is_of : Class → ℕ → Bool
-is_of Graphic x = isGraphic x
-is_of Letter x = isLetter x
+is_of Graphic x = is_graphic x
+is_of Letter x = is_letter x
 
 -- 0 to 9 are worth 0 to 9, A to Z 10 to 35; any other byte has the worth 36, which is no digit's
-unfoldable pub worthOf : ℕ → ℕ
-worthOf x = cond (isDigit x) (x - 48) (cond (isLetter x) (x - 55) 36)
+unfoldable pub worth_of : ℕ → ℕ
+worth_of x = cond (is_digit x) (x - 48) (cond (is_letter x) (x - 55) 36)
 
 -- the byte that stands for a digit of a base: up to base 36 a digit or a letter, above it the byte itself
-unfoldable pub byteIn : ℕ → ℕ → ℕ
-byteIn base d = cond (nat_le base 36) (cond (nat_lt d 10) (48 + d) (55 + d)) d
+unfoldable pub byte_within : ℕ → ℕ → ℕ
+byte_within base d = cond (nat_le base 36) (cond (nat_lt d 10) (48 + d) (55 + d)) d

@@ -1,7 +1,7 @@
 -- A message's layout: its fields by offset. Reading, checking and writing go through the fields in that order.
 use Rattle.std.specs.Prelude.{◌≡◌, ℕ, ◌+◌, false, List, [], ◌∷◌, ◌++◌, take, drop, Ok, Err, Result}
 use Rattle.layout.specs.declared.fault.FieldFault.{FieldFault}
-use Rattle.layout.specs.Slots.{Slot, width, Spells, keeps, Passes, Stops, in_range, value_of, read_slot, checkSlot, spell, over}
+use Rattle.layout.specs.Slots.{Slot, width, Spells, keeps, Passes, Stops, in_range, value_of, read_slot, check_slot, spell, over}
 
 -- a field starts at an offset, and holds what its slot says
 pub record Field : Type 0 where
@@ -51,25 +51,25 @@ before v (Ok vs) = Ok (v ∷ vs)
 before v (Err e) = Err e
 
 -- goes on with what is left, or stops at the fault
-abbrev pub thenRead : Result (ℕ × List ℕ) FieldFault → (List ℕ → Result (List ℕ) FieldFault) → Result (List ℕ) FieldFault
-thenRead (Ok p) go = before p.0 (go p.1)
-thenRead (Err e) go = Err e
+abbrev pub then_read : Result (ℕ × List ℕ) FieldFault → (List ℕ → Result (List ℕ) FieldFault) → Result (List ℕ) FieldFault
+then_read (Ok p) go = before p.0 (go p.1)
+then_read (Err e) go = Err e
 
 -- the values of the fields, or the first fault
-abbrev pub readFields : ℕ → List Field → List ℕ → Result (List ℕ) FieldFault
-readFields letter [] xs = Ok []
-readFields letter (f ∷ fs) xs = thenRead (read_slot f.slot letter f.offset xs) (readFields letter fs)
+abbrev pub read_fields : ℕ → List Field → List ℕ → Result (List ℕ) FieldFault
+read_fields letter [] xs = Ok []
+read_fields letter (f ∷ fs) xs = then_read (read_slot f.slot letter f.offset xs) (read_fields letter fs)
 
 -- the first of two faults
-abbrev pub thenCheck : Result (Unit {0}) FieldFault → Result (Unit {0}) FieldFault → Result (Unit {0}) FieldFault
-thenCheck (Ok u) go = go
-thenCheck (Err e) go = Err e
+abbrev pub then_check : Result (Unit {0}) FieldFault → Result (Unit {0}) FieldFault → Result (Unit {0}) FieldFault
+then_check (Ok u) go = go
+then_check (Err e) go = Err e
 
 -- the first field that cannot be written, if there is one
-abbrev pub checkFields : ℕ → List Field → List ℕ → Result (Unit {0}) FieldFault
-checkFields letter [] vs = Ok tt
-checkFields letter (f ∷ fs) [] = Ok tt
-checkFields letter (f ∷ fs) (v ∷ vs) = thenCheck (checkSlot f.slot letter f.offset v) (checkFields letter fs vs)
+abbrev pub check_fields : ℕ → List Field → List ℕ → Result (Unit {0}) FieldFault
+check_fields letter [] vs = Ok tt
+check_fields letter (f ∷ fs) [] = Ok tt
+check_fields letter (f ∷ fs) (v ∷ vs) = then_check (check_slot f.slot letter f.offset v) (check_fields letter fs vs)
 
 -- the fields' bytes one after the other
 abbrev pub line_of : List Field → List ℕ → List ℕ
@@ -78,7 +78,7 @@ line_of (f ∷ fs) [] = []
 line_of (f ∷ fs) (v ∷ vs) = spell f.slot v ++ line_of fs vs
 
 -- each field written over the bytes at its offset
-abbrev pub putFields : List Field → List ℕ → List ℕ → List ℕ
-putFields [] vs room = room
-putFields (f ∷ fs) [] room = room
-putFields (f ∷ fs) (v ∷ vs) room = putFields fs vs (over f.offset (spell f.slot v) room)
+abbrev pub put_fields : List Field → List ℕ → List ℕ → List ℕ
+put_fields [] vs room = room
+put_fields (f ∷ fs) [] room = room
+put_fields (f ∷ fs) (v ∷ vs) room = put_fields fs vs (over f.offset (spell f.slot v) room)

@@ -6,8 +6,8 @@ use Rattle.layout.specs.declared.class.Class.{Class}
 use Rattle.layout.specs.declared.fault.Spot.{Spot}
 use Rattle.layout.specs.declared.fault.FieldFault.{FieldFault}
 use Rattle.layout.specs.declared.fault.FieldFault.TheVariants.{Byte, Range}
-use Rattle.layout.specs.Bytes.{worthOf, is_of}
-use Rattle.layout.specs.Digits.{digitBytes}
+use Rattle.layout.specs.Bytes.{worth_of, is_of}
+use Rattle.layout.specs.Digits.{digit_bytes}
 
 -- What a field may hold.
 pub data Slot : Type 0 where
@@ -29,8 +29,8 @@ width (choice letters) = 1
 -- each is a digit of the base, and together they are v, which is in range
 pub record SpellsNumber (base count low high : ℕ) (p : List ℕ) (v : ℕ) : Type 0 where
   pub size : length p ≡ count
-  pub digits : AllByRecursion (λ x. worthOf x < base) p
-  pub value : number_of base (map worthOf p) ≡ v
+  pub digits : AllByRecursion (λ x. worth_of x < base) p
+  pub value : number_of base (map worth_of p) ≡ v
   pub least : low ≤ v
   pub most : v ≤ high
 
@@ -45,14 +45,14 @@ pub record SpellsText (class : Class) (least w whole : ℕ) (p : List ℕ) (v : 
   pub value : number_of 256 (p ++ replicate (whole - w) 32) ≡ v
 
 -- x is one of the letters
-abbrev pub isOneOf : List ℕ → ℕ → Bool
-isOneOf [] x = false
-isOneOf (l ∷ ls) x = x == l || isOneOf ls x
+abbrev pub is_one_of : List ℕ → ℕ → Bool
+is_one_of [] x = false
+is_one_of (l ∷ ls) x = x == l || is_one_of ls x
 
 -- one byte, which is one of the letters
 pub record SpellsChoice (letters : List ℕ) (p : List ℕ) (v : ℕ) : Type 0 where
   pub alone : p ≡ v ∷ []
-  pub member : isOneOf letters v ≡ true
+  pub member : is_one_of letters v ≡ true
 
 abbrev pub Spells : Slot → List ℕ → ℕ → Type 0
 Spells (number base count low high) p v = SpellsNumber base count low high p v
@@ -62,15 +62,15 @@ Spells (choice letters) p v = SpellsChoice letters p v
 -- Reading, byte by byte and then for the range.
 
 -- a space stands right before place j
-abbrev pub afterSpace : List ℕ → ℕ → Bool
-afterSpace p zero = false
-afterSpace p (suc j) = slice_index p j == 32
+abbrev pub after_first_space : List ℕ → ℕ → Bool
+after_first_space p zero = false
+after_first_space p (suc j) = slice_index p j == 32
 
 -- the byte at place j of p keeps the field's rule, where all bytes before it do
 abbrev pub keeps : Slot → List ℕ → ℕ → Bool
-keeps (number base count low high) p j = nat_lt (worthOf (slice_index p j)) base
-keeps (text class least w whole) p j = cond (slice_index p j == 32) (nat_le least j) (is_of class (slice_index p j) && not (afterSpace p j))
-keeps (choice letters) p j = isOneOf letters (slice_index p j)
+keeps (number base count low high) p j = nat_lt (worth_of (slice_index p j)) base
+keeps (text class least w whole) p j = cond (slice_index p j == 32) (nat_le least j) (is_of class (slice_index p j) && not (after_first_space p j))
+keeps (choice letters) p j = is_one_of letters (slice_index p j)
 
 -- an earlier place, or else n where its test failed
 abbrev pub or_else : Option ℕ → ℕ → Bool → Option ℕ
@@ -78,9 +78,9 @@ or_else (Some i) n passed = Some i
 or_else None n passed = cond passed None (Some n)
 
 -- the first of the places below n at which the test fails, or none
-unfoldable pub firstFailing : (ℕ → Bool) → ℕ → Option ℕ
-firstFailing ok zero = None
-firstFailing ok (suc n) = or_else (firstFailing ok n) n (ok n)
+unfoldable pub first_failing : (ℕ → Bool) → ℕ → Option ℕ
+first_failing ok zero = None
+first_failing ok (suc n) = or_else (first_failing ok n) n (ok n)
 
 -- the test holds at every place below n
 abbrev pub Passes : (ℕ → Bool) → ℕ → Type 0
@@ -96,7 +96,7 @@ holds s p j = nat_lt j (length p) && keeps s p j
 
 -- the number of a field's bytes
 unfoldable pub value_of : Slot → List ℕ → ℕ
-value_of (number base count low high) p = number_of base (map worthOf p)
+value_of (number base count low high) p = number_of base (map worth_of p)
 value_of (text class least w whole) p = number_of 256 (p ++ replicate (whole - w) 32)
 value_of (choice letters) p = slice_index p 0
 
@@ -106,8 +106,8 @@ walked s xs (Some i) = Err i
 walked s xs None = Ok (value_of s (take (width s) xs))
 
 -- the walk itself
-unfoldable pub scanSlot : Slot → List ℕ → Result ℕ ℕ
-scanSlot s xs = walked s xs (firstFailing (holds s xs) (width s))
+unfoldable pub scan_slot : Slot → List ℕ → Result ℕ ℕ
+scan_slot s xs = walked s xs (first_failing (holds s xs) (width s))
 
 -- the field allows the number; only a field of digits has a range
 abbrev pub in_range : Slot → ℕ → Bool
@@ -130,30 +130,30 @@ ranged s letter offset xs (Err i) = Err (Byte (spot letter offset i))
 
 -- the field at the front of xs, which has that offset in a line of that letter, and what is left of xs
 abbrev pub read_slot : Slot → ℕ → ℕ → List ℕ → Result (ℕ × List ℕ) FieldFault
-read_slot s letter offset xs = ranged s letter offset xs (scanSlot s xs)
+read_slot s letter offset xs = ranged s letter offset xs (scan_slot s xs)
 
 -- Writing.
 
 -- the bytes that spell v, where any do
 abbrev pub spell : Slot → ℕ → List ℕ
-spell (number base count low high) v = digitBytes base count v
-spell (text class least w whole) v = digitBytes 256 w (v / 256 ^ (whole - w))
+spell (number base count low high) v = digit_bytes base count v
+spell (text class least w whole) v = digit_bytes 256 w (v / 256 ^ (whole - w))
 spell (choice letters) v = v ∷ []
 
 -- a walk found that number
-abbrev pub comesBack : ℕ → Result ℕ ℕ → Bool
-comesBack v (Ok w) = w == v
-comesBack v (Err i) = false
+abbrev pub is_read_again : ℕ → Result ℕ ℕ → Bool
+is_read_again v (Ok w) = w == v
+is_read_again v (Err i) = false
 
 -- some bytes spell v
 abbrev pub givable : Slot → ℕ → Bool
 givable (number base count low high) v = nat_le low v && nat_le v high
-givable (text class least w whole) v = comesBack v (scanSlot (text class least w whole) (spell (text class least w whole) v))
-givable (choice letters) v = isOneOf letters v
+givable (text class least w whole) v = is_read_again v (scan_slot (text class least w whole) (spell (text class least w whole) v))
+givable (choice letters) v = is_one_of letters v
 
 -- whether the field at that offset can be written
-abbrev pub checkSlot : Slot → ℕ → ℕ → ℕ → Result (Unit {0}) FieldFault
-checkSlot s letter offset v = cond (givable s v) (Ok tt) (Err (Range (origin letter offset)))
+abbrev pub check_slot : Slot → ℕ → ℕ → ℕ → Result (Unit {0}) FieldFault
+check_slot s letter offset v = cond (givable s v) (Ok tt) (Err (Range (origin letter offset)))
 
 -- the bytes xs with p written over them from o on; p that does not fit changes nothing
 unfoldable pub over : ℕ → List ℕ → List ℕ → List ℕ

@@ -12,38 +12,38 @@ use Rattle.messages.specs.declared.message.Message.{Message}
 use Rattle.messages.specs.declared.message.Message.TheVariants as message
 use Rattle.messages.specs.declared.types.MessageType.{MessageType}
 use Rattle.messages.specs.declared.types.MessageType.TheVariants.{SymbolClear, AddShort, AddLong, OrderExecuted, OrderCancel, TradeShort, TradeLong, TradeBreak}
-use Rattle.messages.specs.Codes.{sideLetter, displayLetter, customerLetter}
+use Rattle.messages.specs.Codes.{side_letter, display_letter, customer_letter}
 use Rattle.messages.specs.Lines.{told}
 
 abbrev side_of : ℕ → Side
 side_of x = cond (eqb x 66) Buy Sell
 
-abbrev displayOf : ℕ → Display
-displayOf x = cond (eqb x 89) Quoted Unquoted
+abbrev display_of : ℕ → Display
+display_of x = cond (eqb x 89) Quoted Unquoted
 
-abbrev customerOf : ℕ → Customer
-customerOf x = cond (eqb x 82) Retail Blank
+abbrev customer_of : ℕ → Customer
+customer_of x = cond (eqb x 82) Retail Blank
 
-side-back : (x : Side) → side_of (sideLetter x) ≡ x
+side-back : (x : Side) → side_of (side_letter x) ≡ x
 side-back Buy = refl
 side-back Sell = refl
 
 trade-side-back : (x : TradeSide) → trade.Buy ≡ x
 trade-side-back trade.Buy = refl
 
-display-back : (x : Display) → displayOf (displayLetter x) ≡ x
+display-back : (x : Display) → display_of (display_letter x) ≡ x
 display-back Quoted = refl
 display-back Unquoted = refl
 
-customer-back : (x : Customer) → customerOf (customerLetter x) ≡ x
+customer-back : (x : Customer) → customer_of (customer_letter x) ≡ x
 customer-back Retail = refl
 customer-back Blank = refl
 
 -- the message of a kind that has those values
 abbrev back : MessageType → List ℕ → Message
 back SymbolClear vs = message.SymbolClear (record { time = get_or vs 0 0; symbol = get_or vs 2 0 })
-back AddShort vs = message.AddShort (record { time = get_or vs 0 0; order = get_or vs 2 0; side = side_of (get_or vs 3 0); shares = get_or vs 4 0; symbol = get_or vs 5 0; price = get_or vs 6 0; display = displayOf (get_or vs 7 0) })
-back AddLong vs = message.AddLong (record { time = get_or vs 0 0; order = get_or vs 2 0; side = side_of (get_or vs 3 0); shares = get_or vs 4 0; symbol = get_or vs 5 0; price = get_or vs 6 0; display = displayOf (get_or vs 7 0); participant = get_or vs 8 0; customer = customerOf (get_or vs 9 0) })
+back AddShort vs = message.AddShort (record { time = get_or vs 0 0; order = get_or vs 2 0; side = side_of (get_or vs 3 0); shares = get_or vs 4 0; symbol = get_or vs 5 0; price = get_or vs 6 0; display = display_of (get_or vs 7 0) })
+back AddLong vs = message.AddLong (record { time = get_or vs 0 0; order = get_or vs 2 0; side = side_of (get_or vs 3 0); shares = get_or vs 4 0; symbol = get_or vs 5 0; price = get_or vs 6 0; display = display_of (get_or vs 7 0); participant = get_or vs 8 0; customer = customer_of (get_or vs 9 0) })
 back OrderExecuted vs = message.OrderExecuted (record { time = get_or vs 0 0; order = get_or vs 2 0; shares = get_or vs 3 0; execution = get_or vs 4 0 })
 back OrderCancel vs = message.OrderCancel (record { time = get_or vs 0 0; order = get_or vs 2 0; shares = get_or vs 3 0 })
 back TradeShort vs = message.TradeShort (record { time = get_or vs 0 0; order = get_or vs 2 0; side = trade.Buy; shares = get_or vs 4 0; symbol = get_or vs 5 0; price = get_or vs 6 0; execution = get_or vs 7 0 })

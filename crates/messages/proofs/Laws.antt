@@ -6,14 +6,14 @@ use Rattle.std.proofs.lemmas.Bool.{cases_Bool, leb-true, leb-false}
 use Rattle.layout.specs.declared.fault.FieldFault.{FieldFault}
 use Rattle.layout.specs.declared.fault.FieldFault.TheVariants.{Byte, Range}
 use Rattle.layout.specs.declared.fault.Spot.{Spot}
-use Rattle.layout.specs.Fields.{FirstUngiven, putFields}
+use Rattle.layout.specs.Fields.{FirstUngiven, put_fields}
 use Rattle.layout.specs.Slots.{origin, over}
 use Rattle.messages.specs.declared.fault.MessageFault.{MessageFault}
 use Rattle.messages.specs.declared.fault.MessageFault.TheVariants.{Field as field}
 use Rattle.messages.specs.declared.message.Message.{Message}
 use Rattle.messages.specs.Faults.{number_of, carried_of}
-use Rattle.messages.specs.Layouts.{letterOf, length_of, layout_of}
-use Rattle.messages.specs.Lines.{told, readLine, written, checked, fitted, placed}
+use Rattle.messages.specs.Layouts.{letter_of, length_of, layout_of}
+use Rattle.messages.specs.Lines.{told, line_read, written, checked, fitted, placed}
 use Rattle.messages.specs.Promises.{Reading, Writing}
 use Rattle.messages.specs.Refusals.{LaidOut, Due, WriteDue, range, buffer}
 use Rattle.messages.specs.Values.{type_of, values_of}
@@ -40,13 +40,13 @@ written-laid xs m l =
     sym (append-nil (written m)) ∙ ap (λ ys. written m ++ ys) (sym none) ∙ whole
 
 module _ (xs : List ℕ) where
-  laid-told : (m : Message) → readLine xs ≡ Ok (told m) → LaidOut xs m
+  laid-told : (m : Message) → line_read xs ≡ Ok (told m) → LaidOut xs m
   laid-told m e = subst (Judged xs) e (judged xs)
 
-  due-told : (f : MessageFault) → readLine xs ≡ Err f → Due xs (number_of f) (carried_of f)
+  due-told : (f : MessageFault) → line_read xs ≡ Err f → Due xs (number_of f) (carried_of f)
   due-told f e = subst (Judged xs) e (judged xs)
 
-  pub reading : (r : Result Message MessageFault) → MatchResult r (λ m. readLine xs ≡ Ok (told m)) (λ f. readLine xs ≡ Err f) → Reading xs r
+  pub reading : (r : Result Message MessageFault) → MatchResult r (λ m. line_read xs ≡ Ok (told m)) (λ f. line_read xs ≡ Err f) → Reading xs r
   reading (Ok k) h = record {
     laid = λ m. (
       (λ e. subst (LaidOut xs) (ok-inj e) (laid-told k h)),
@@ -72,10 +72,10 @@ module _ (m : Message) (place : ℕ) (buf : List ℕ) where
 
   -- a line that is laid out so passes the check, and a field that no line gives does not
   laid-passes : (xs : List ℕ) → LaidOut xs m → checked m ≡ Ok tt
-  laid-passes xs l = laid-checks (letterOf (type_of m)) xs 0 (layout_of (type_of m)) (length_of (type_of m)) (row (type_of m)).tiles (values_of m) l.1
+  laid-passes xs l = laid-checks (letter_of (type_of m)) xs 0 (layout_of (type_of m)) (length_of (type_of m)) (row (type_of m)).tiles (values_of m) l.1
 
-  ungiven-fails : {o : ℕ} → FirstUngiven (layout_of (type_of m)) (values_of m) o → checked m ≡ Err (Range (origin (letterOf (type_of m)) o))
-  ungiven-fails h = check-ungiven (letterOf (type_of m)) 0 (layout_of (type_of m)) (length_of (type_of m)) (row (type_of m)).tiles h
+  ungiven-fails : {o : ℕ} → FirstUngiven (layout_of (type_of m)) (values_of m) o → checked m ≡ Err (Range (origin (letter_of (type_of m)) o))
+  ungiven-fails h = check-ungiven (letter_of (type_of m)) 0 (layout_of (type_of m)) (length_of (type_of m)) (row (type_of m)).tiles h
 
   -- what is due where the check passed, and where it failed
   due-passed : checked m ≡ Ok tt → {n : ℕ} {vs : List ℕ} → WriteDue m place (length buf) n vs → (n ≡ 14) × (vs ≡ []) × (length buf < place + length_of (type_of m))
@@ -117,7 +117,7 @@ module _ (m : Message) (place : ℕ) (buf : List ℕ) where
       }))
       (cases_Bool (leb (place + length_of (type_of m)) (length buf)))
 
-  failed : (at : Spot) → checked m ≡ Err (Range at) → at.letter ≡ letterOf (type_of m) → FirstUngiven (layout_of (type_of m)) (values_of m) at.offset → Writing m place buf (placed m place buf (Err (Range at))) (fitted m place (length buf) (Err (Range at)))
+  failed : (at : Spot) → checked m ≡ Err (Range at) → at.letter ≡ letter_of (type_of m) → FirstUngiven (layout_of (type_of m)) (values_of m) at.offset → Writing m place buf (placed m place buf (Err (Range at))) (fitted m place (length buf) (Err (Range at)))
   failed at e named first = record {
     line = λ n h. absurd (never (sym h));
     only = only-line;
@@ -129,17 +129,17 @@ module _ (m : Message) (place : ℕ) (buf : List ℕ) where
     );
   }
 
-  writing-at : (c : Result (Unit {0}) FieldFault) → checked m ≡ c → Checked (letterOf (type_of m)) (layout_of (type_of m)) (values_of m) c → Writing m place buf (placed m place buf c) (fitted m place (length buf) c)
+  writing-at : (c : Result (Unit {0}) FieldFault) → checked m ≡ c → Checked (letter_of (type_of m)) (layout_of (type_of m)) (values_of m) c → Writing m place buf (placed m place buf c) (fitted m place (length buf) c)
   writing-at (Ok u) e h = passed e (size, h 0 (length_of (type_of m)) (row (type_of m)).tiles (written m) [] (sym (append-nil (written m))))
   writing-at (Err (Byte at)) e h = absurd h
   writing-at (Err (Range at)) e h = failed at e h.0 h.1
 
   pub writing : (after : List ℕ) (r : Result ℕ MessageFault) → r ≡ fitted m place (length buf) (checked m) → after ≡ placed m place buf (checked m) → Writing m place buf after r
   writing after r says leaves =
-      rw (says, leaves) (writing-at (checked m) refl (check-answers (letterOf (type_of m)) 0 (layout_of (type_of m)) (length_of (type_of m)) (row (type_of m)).tiles (values_of m) (each m)))
+      rw (says, leaves) (writing-at (checked m) refl (check-answers (letter_of (type_of m)) 0 (layout_of (type_of m)) (length_of (type_of m)) (row (type_of m)).tiles (values_of m) (each m)))
 
 -- the fields written over the part of a buffer that starts at a place are the line written over the buffer there
-pub put-over : (m : Message) (place : ℕ) (buf part : List ℕ) → place + length_of (type_of m) ≤ length buf → part ≡ putFields (layout_of (type_of m)) (values_of m) (take (length buf - place) (drop place buf)) → put_mid place (length buf - place) buf part ≡ over place (written m) buf
+pub put-over : (m : Message) (place : ℕ) (buf part : List ℕ) → place + length_of (type_of m) ≤ length buf → part ≡ put_fields (layout_of (type_of m)) (values_of m) (take (length buf - place) (drop place buf)) → put_mid place (length buf - place) buf part ≡ over place (written m) buf
 put-over m place buf part fits e =
     let long = size m place buf in
     let held : length_of (type_of m) ≤ length (drop place buf) = simp length-drop (omega arith) in

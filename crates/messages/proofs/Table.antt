@@ -7,15 +7,15 @@ use Rattle.messages.specs.declared.message.Message.{Message}
 use Rattle.messages.specs.declared.message.Message.TheVariants as message
 use Rattle.messages.specs.declared.types.MessageType.{MessageType}
 use Rattle.messages.specs.declared.types.MessageType.TheVariants.{SymbolClear, AddShort, AddLong, OrderExecuted, OrderCancel, TradeShort, TradeLong, TradeBreak}
-use Rattle.messages.specs.Layouts.{letterOf, length_of, layout_of}
-use Rattle.messages.specs.Lines.{types, typeAmong}
+use Rattle.messages.specs.Layouts.{letter_of, length_of, layout_of}
+use Rattle.messages.specs.Lines.{types, type_among}
 use Rattle.messages.specs.Values.{type_of, values_of}
 
 pub record Row (t : MessageType) : Type 0 where
   -- the fields follow one another from 0 to the length, each sound
   pub tiles : tiled 0 (layout_of t) (length_of t) ≡ true
   -- the letter names the kind
-  pub named : typeAmong types (letterOf t) ≡ Some t
+  pub named : type_among types (letter_of t) ≡ Some t
   pub long : 9 ≤ length_of t
   pub short : length_of t ≤ 64
 
@@ -43,22 +43,22 @@ each (message.TradeBreak r) = tt
 -- the kind that a letter names has that letter
 abbrev Letter : ℕ → Option MessageType → Type 0
 Letter letter None = Unit {0}
-Letter letter (Some t) = letterOf t ≡ letter
+Letter letter (Some t) = letter_of t ≡ letter
 
-among : (ts : List MessageType) (letter : ℕ) → Letter letter (typeAmong ts letter)
+among : (ts : List MessageType) (letter : ℕ) → Letter letter (type_among ts letter)
 among [] letter = tt
-among (t ∷ ts) letter = ⊎_elim (λ e. rw e (sym (eqb-true letter (letterOf t) e))) (λ e. rw e (among ts letter)) (cases_Bool (eqb letter (letterOf t)))
+among (t ∷ ts) letter = ⊎_elim (λ e. rw e (sym (eqb-true letter (letter_of t) e))) (λ e. rw e (among ts letter)) (cases_Bool (eqb letter (letter_of t)))
 
-pub letter-of : (letter : ℕ) (t : MessageType) → typeAmong types letter ≡ Some t → letterOf t ≡ letter
+pub letter-of : (letter : ℕ) (t : MessageType) → type_among types letter ≡ Some t → letter_of t ≡ letter
 letter-of letter t e = subst (Letter letter) e (among types letter)
 
-pub type-of : (letter : ℕ) (t : MessageType) → letterOf t ≡ letter → typeAmong types letter ≡ Some t
-type-of letter t e = ap (typeAmong types) (sym e) ∙ (row t).named
+pub type-of : (letter : ℕ) (t : MessageType) → letter_of t ≡ letter → type_among types letter ≡ Some t
+type-of letter t e = ap (type_among types) (sym e) ∙ (row t).named
 
 -- a letter that is no kind's names none
-unnamed : (ts : List MessageType) (letter : ℕ) → ((t : MessageType) → letterOf t ≡ letter → ⊥) → typeAmong ts letter ≡ None
+unnamed : (ts : List MessageType) (letter : ℕ) → ((t : MessageType) → letter_of t ≡ letter → ⊥) → type_among ts letter ≡ None
 unnamed [] letter h = refl
-unnamed (t ∷ ts) letter h = let other : eqb letter (letterOf t) ≡ false = ne_eqb letter (letterOf t) (λ e. h t (sym e)) in rw other (unnamed ts letter h)
+unnamed (t ∷ ts) letter h = let other : eqb letter (letter_of t) ≡ false = ne_eqb letter (letter_of t) (λ e. h t (sym e)) in rw other (unnamed ts letter h)
 
-pub no-type : (letter : ℕ) → ((t : MessageType) → letterOf t ≡ letter → ⊥) → typeAmong types letter ≡ None
+pub no-type : (letter : ℕ) → ((t : MessageType) → letter_of t ≡ letter → ⊥) → type_among types letter ≡ None
 no-type letter h = unnamed types letter h

@@ -10,20 +10,20 @@ use Rattle.messages.specs.declared.code.Customer.{Customer}
 use Rattle.messages.specs.declared.code.Customer.TheVariants.{Retail, Blank}
 
 -- B and S
-abbrev pub sideLetter : Side → ℕ
-sideLetter Buy = 66
-sideLetter Sell = 83
+abbrev pub side_letter : Side → ℕ
+side_letter Buy = 66
+side_letter Sell = 83
 
 -- B
-abbrev pub tradeSideLetter : TradeSide → ℕ
-tradeSideLetter trade.Buy = 66
+abbrev pub trade_side_letter : TradeSide → ℕ
+trade_side_letter trade.Buy = 66
 
 -- Y and N
-abbrev pub displayLetter : Display → ℕ
-displayLetter Quoted = 89
-displayLetter Unquoted = 78
+abbrev pub display_letter : Display → ℕ
+display_letter Quoted = 89
+display_letter Unquoted = 78
 
 -- R and a space
-abbrev pub customerLetter : Customer → ℕ
-customerLetter Retail = 82
-customerLetter Blank = 32
+abbrev pub customer_letter : Customer → ℕ
+customer_letter Retail = 82
+customer_letter Blank = 32

@@ -7,15 +7,15 @@ use Rattle.messages.specs.declared.types.MessageType.{MessageType}
 use Rattle.messages.specs.declared.types.MessageType.TheVariants.{SymbolClear, AddShort, AddLong, OrderExecuted, OrderCancel, TradeShort, TradeLong, TradeBreak}
 
 -- byte 8 of a line
-abbrev pub letterOf : MessageType → ℕ
-letterOf SymbolClear = 115
-letterOf AddShort = 65
-letterOf AddLong = 100
-letterOf OrderExecuted = 69
-letterOf OrderCancel = 88
-letterOf TradeShort = 80
-letterOf TradeLong = 114
-letterOf TradeBreak = 66
+abbrev pub letter_of : MessageType → ℕ
+letter_of SymbolClear = 115
+letter_of AddShort = 65
+letter_of AddLong = 100
+letter_of OrderExecuted = 69
+letter_of OrderCancel = 88
+letter_of TradeShort = 80
+letter_of TradeLong = 114
+letter_of TradeBreak = 66
 
 abbrev pub length_of : MessageType → ℕ
 length_of SymbolClear = 17
@@ -45,11 +45,11 @@ abbrev pub price : Slot
 price = number 10 10 0 9999999999
 
 -- one or more printable bytes, filled up with spaces
-abbrev pub shortSymbol : Slot
-shortSymbol = text Graphic 1 6 8
+abbrev pub short_symbol : Slot
+short_symbol = text Graphic 1 6 8
 
-abbrev pub longSymbol : Slot
-longSymbol = text Graphic 1 8 8
+abbrev pub long_symbol : Slot
+long_symbol = text Graphic 1 8 8
 
 -- none to four letters, filled up with spaces
 abbrev pub participant : Slot
@@ -60,8 +60,8 @@ abbrev pub side : Slot
 side = choice (66 ∷ 83 ∷ [])
 
 -- B
-abbrev pub tradeSide : Slot
-tradeSide = choice (66 ∷ [])
+abbrev pub trade_side : Slot
+trade_side = choice (66 ∷ [])
 
 -- Y or N
 abbrev pub display : Slot
@@ -73,17 +73,17 @@ customer = choice (82 ∷ 32 ∷ [])
 
 -- the letter of the kind itself
 abbrev pub mark : MessageType → Slot
-mark t = choice (letterOf t ∷ [])
+mark t = choice (letter_of t ∷ [])
 
 -- the fields of each kind from offset 9 on
 abbrev pub body_of : MessageType → List Field
-body_of SymbolClear = at 9 longSymbol ∷ []
-body_of AddShort = at 9 identifier ∷ at 21 side ∷ at 22 shares ∷ at 28 shortSymbol ∷ at 34 price ∷ at 44 display ∷ []
-body_of AddLong = at 9 identifier ∷ at 21 side ∷ at 22 shares ∷ at 28 longSymbol ∷ at 36 price ∷ at 46 display ∷ at 47 participant ∷ at 51 customer ∷ []
+body_of SymbolClear = at 9 long_symbol ∷ []
+body_of AddShort = at 9 identifier ∷ at 21 side ∷ at 22 shares ∷ at 28 short_symbol ∷ at 34 price ∷ at 44 display ∷ []
+body_of AddLong = at 9 identifier ∷ at 21 side ∷ at 22 shares ∷ at 28 long_symbol ∷ at 36 price ∷ at 46 display ∷ at 47 participant ∷ at 51 customer ∷ []
 body_of OrderExecuted = at 9 identifier ∷ at 21 shares ∷ at 27 identifier ∷ []
 body_of OrderCancel = at 9 identifier ∷ at 21 shares ∷ []
-body_of TradeShort = at 9 identifier ∷ at 21 tradeSide ∷ at 22 shares ∷ at 28 shortSymbol ∷ at 34 price ∷ at 44 identifier ∷ []
-body_of TradeLong = at 9 identifier ∷ at 21 tradeSide ∷ at 22 shares ∷ at 28 longSymbol ∷ at 36 price ∷ at 46 identifier ∷ []
+body_of TradeShort = at 9 identifier ∷ at 21 trade_side ∷ at 22 shares ∷ at 28 short_symbol ∷ at 34 price ∷ at 44 identifier ∷ []
+body_of TradeLong = at 9 identifier ∷ at 21 trade_side ∷ at 22 shares ∷ at 28 long_symbol ∷ at 36 price ∷ at 46 identifier ∷ []
 body_of TradeBreak = at 9 identifier ∷ []
 
 -- every kind has a time at 0 and its letter at 8

@@ -3,8 +3,8 @@ use Rattle.std.specs.Prelude.{◌≡◌, ℕ, ◌+◌, ◌≤◌, ◌↔◌, Lis
 use Rattle.layout.specs.Slots.{Spells}
 use Rattle.messages.specs.declared.fault.MessageFault.{MessageFault}
 use Rattle.messages.specs.declared.message.Message.{Message}
-use Rattle.messages.specs.Layouts.{shortSymbol, longSymbol}
-use Rattle.messages.specs.Lines.{readLine, told, written}
+use Rattle.messages.specs.Layouts.{short_symbol, long_symbol}
+use Rattle.messages.specs.Lines.{line_read, told, written}
 use Rattle.messages.specs.Refusals.{LaidOut, Due, WriteDue, Refuses}
 
 -- Of what reading the line xs answered.
@@ -24,7 +24,7 @@ pub record Writing (m : Message) (place : ℕ) (buf after : List ℕ) (r : Resul
   pub line : (n : ℕ) → r ≡ Ok n → LaidOut (written m) m × (n ≡ length (written m)) × (place + n ≤ length buf) × (after ≡ take place buf ++ (written m ++ drop (place + n) buf))
   pub only : (xs : List ℕ) → LaidOut xs m → xs ≡ written m
   -- reading it gives the message
-  pub back : (n : ℕ) → r ≡ Ok n → readLine (written m) ≡ Ok (told m)
+  pub back : (n : ℕ) → r ≡ Ok n → line_read (written m) ≡ Ok (told m)
   -- a refusal changes nothing
   pub kept : (e : MessageFault) → r ≡ Err e → after ≡ buf
   -- each refusal is given in its own case, and in that case only
@@ -32,4 +32,4 @@ pub record Writing (m : Message) (place : ℕ) (buf after : List ℕ) (r : Resul
 
 -- A symbol has one number in its short and in its long form, and another symbol has another.
 abbrev pub SymbolsAgree : Type 0
-SymbolsAgree = (p q : List ℕ) (v w : ℕ) → Spells shortSymbol p v → Spells longSymbol q w → (v ≡ w) ↔ (q ≡ p ++ (32 ∷ 32 ∷ []))
+SymbolsAgree = (p q : List ℕ) (v w : ℕ) → Spells short_symbol p v → Spells long_symbol q w → (v ≡ w) ↔ (q ≡ p ++ (32 ∷ 32 ∷ []))

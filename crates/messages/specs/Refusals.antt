@@ -5,7 +5,7 @@ use Rattle.messages.specs.declared.fault.MessageFault.{MessageFault}
 use Rattle.messages.specs.declared.message.Message.{Message}
 use Rattle.messages.specs.declared.types.MessageType.{MessageType}
 use Rattle.messages.specs.Faults.{number_of, carried_of}
-use Rattle.messages.specs.Layouts.{letterOf, length_of, layout_of}
+use Rattle.messages.specs.Layouts.{letter_of, length_of, layout_of}
 use Rattle.messages.specs.Values.{type_of, values_of}
 
 -- The line is laid out as the message: it has the kind's length, and each of its fields spells the message's value.
@@ -17,16 +17,16 @@ pub data Due (xs : List ℕ) : ℕ → List ℕ → Type 0 where
   -- fewer than nine bytes
   cut : length xs < 9 → Due xs 1 []
   -- byte 8 is no kind's letter
-  unknown : 9 ≤ length xs → ((t : MessageType) → letterOf t ≢ slice_index xs 8) → Due xs 2 (slice_index xs 8 ∷ [])
+  unknown : 9 ≤ length xs → ((t : MessageType) → letter_of t ≢ slice_index xs 8) → Due xs 2 (slice_index xs 8 ∷ [])
   -- the line has not the kind's length
-  misfit : (t : MessageType) → 9 ≤ length xs → letterOf t ≡ slice_index xs 8 → (length xs ≢ length_of t) → Due xs 3 (letterOf t ∷ [])
+  misfit : (t : MessageType) → 9 ≤ length xs → letter_of t ≡ slice_index xs 8 → (length xs ≢ length_of t) → Due xs 3 (letter_of t ∷ [])
   -- the first field at fault: 4 for its first byte that breaks the rule, 5 for its number
-  faulty : {n o : ℕ} (t : MessageType) → letterOf t ≡ slice_index xs 8 → length xs ≡ length_of t → FirstFault xs (layout_of t) n o → Due xs n (letterOf t ∷ o ∷ [])
+  faulty : {n o : ℕ} (t : MessageType) → letter_of t ≡ slice_index xs 8 → length xs ≡ length_of t → FirstFault xs (layout_of t) n o → Due xs n (letter_of t ∷ o ∷ [])
 
 -- Writing the message m from a place on, into a buffer of so many bytes.
 pub data WriteDue (m : Message) (place size : ℕ) : ℕ → List ℕ → Type 0 where
   -- the first field whose value no line gives
-  range : {o : ℕ} → FirstUngiven (layout_of (type_of m)) (values_of m) o → WriteDue m place size 5 (letterOf (type_of m) ∷ o ∷ [])
+  range : {o : ℕ} → FirstUngiven (layout_of (type_of m)) (values_of m) o → WriteDue m place size 5 (letter_of (type_of m) ∷ o ∷ [])
   -- some line is laid out as the message, and it would pass the buffer's end
   buffer : (xs : List ℕ) → LaidOut xs m → size < place + length xs → WriteDue m place size 14 []
 

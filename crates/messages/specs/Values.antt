@@ -11,30 +11,30 @@ use Rattle.messages.specs.declared.record.Trade.{Trade}
 use Rattle.messages.specs.declared.record.Break.{Break}
 use Rattle.messages.specs.declared.types.MessageType.{MessageType}
 use Rattle.messages.specs.declared.types.MessageType.TheVariants as kind
-use Rattle.messages.specs.Codes.{sideLetter, tradeSideLetter, displayLetter, customerLetter}
-use Rattle.messages.specs.Layouts.{letterOf}
+use Rattle.messages.specs.Codes.{side_letter, trade_side_letter, display_letter, customer_letter}
+use Rattle.messages.specs.Layouts.{letter_of}
 
-abbrev pub clearValues : ClearSymbol → List ℕ
-clearValues r = r.time ∷ letterOf kind.SymbolClear ∷ r.symbol ∷ []
+abbrev pub clear_values : ClearSymbol → List ℕ
+clear_values r = r.time ∷ letter_of kind.SymbolClear ∷ r.symbol ∷ []
 
-abbrev pub addValues : AddOrder → List ℕ
-addValues r = r.time ∷ letterOf kind.AddShort ∷ r.order ∷ sideLetter r.side ∷ r.shares ∷ r.symbol ∷ r.price ∷ displayLetter r.display ∷ []
+abbrev pub add_values : AddOrder → List ℕ
+add_values r = r.time ∷ letter_of kind.AddShort ∷ r.order ∷ side_letter r.side ∷ r.shares ∷ r.symbol ∷ r.price ∷ display_letter r.display ∷ []
 
-abbrev pub attributedValues : AttributedAdd → List ℕ
-attributedValues r = r.time ∷ letterOf kind.AddLong ∷ r.order ∷ sideLetter r.side ∷ r.shares ∷ r.symbol ∷ r.price ∷ displayLetter r.display ∷ r.participant ∷ customerLetter r.customer ∷ []
+abbrev pub attributed_values : AttributedAdd → List ℕ
+attributed_values r = r.time ∷ letter_of kind.AddLong ∷ r.order ∷ side_letter r.side ∷ r.shares ∷ r.symbol ∷ r.price ∷ display_letter r.display ∷ r.participant ∷ customer_letter r.customer ∷ []
 
-abbrev pub executedValues : Execution → List ℕ
-executedValues r = r.time ∷ letterOf kind.OrderExecuted ∷ r.order ∷ r.shares ∷ r.execution ∷ []
+abbrev pub executed_values : Execution → List ℕ
+executed_values r = r.time ∷ letter_of kind.OrderExecuted ∷ r.order ∷ r.shares ∷ r.execution ∷ []
 
-abbrev pub cancelValues : Cancel → List ℕ
-cancelValues r = r.time ∷ letterOf kind.OrderCancel ∷ r.order ∷ r.shares ∷ []
+abbrev pub cancel_values : Cancel → List ℕ
+cancel_values r = r.time ∷ letter_of kind.OrderCancel ∷ r.order ∷ r.shares ∷ []
 
 -- of the short and of the long form
-abbrev pub tradeValues : MessageType → Trade → List ℕ
-tradeValues t r = r.time ∷ letterOf t ∷ r.order ∷ tradeSideLetter r.side ∷ r.shares ∷ r.symbol ∷ r.price ∷ r.execution ∷ []
+abbrev pub trade_values : MessageType → Trade → List ℕ
+trade_values t r = r.time ∷ letter_of t ∷ r.order ∷ trade_side_letter r.side ∷ r.shares ∷ r.symbol ∷ r.price ∷ r.execution ∷ []
 
-abbrev pub breakValues : Break → List ℕ
-breakValues r = r.time ∷ letterOf kind.TradeBreak ∷ r.execution ∷ []
+abbrev pub break_values : Break → List ℕ
+break_values r = r.time ∷ letter_of kind.TradeBreak ∷ r.execution ∷ []
 
 -- a message's kind
 abbrev pub type_of : Message → MessageType
@@ -49,11 +49,11 @@ type_of (TradeBreak r) = kind.TradeBreak
 
 -- and what it says
 abbrev pub values_of : Message → List ℕ
-values_of (SymbolClear r) = clearValues r
-values_of (AddShort r) = addValues r
-values_of (AddLong r) = attributedValues r
-values_of (OrderExecuted r) = executedValues r
-values_of (OrderCancel r) = cancelValues r
-values_of (TradeShort r) = tradeValues kind.TradeShort r
-values_of (TradeLong r) = tradeValues kind.TradeLong r
-values_of (TradeBreak r) = breakValues r
+values_of (SymbolClear r) = clear_values r
+values_of (AddShort r) = add_values r
+values_of (AddLong r) = attributed_values r
+values_of (OrderExecuted r) = executed_values r
+values_of (OrderCancel r) = cancel_values r
+values_of (TradeShort r) = trade_values kind.TradeShort r
+values_of (TradeLong r) = trade_values kind.TradeLong r
+values_of (TradeBreak r) = break_values r

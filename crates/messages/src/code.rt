@@ -1,6 +1,6 @@
 // Values that a line has as one letter.
 ghost use Rattle.std.specs.Prelude.{[], ◌∷◌};
-ghost use Rattle.messages.specs.Codes.{sideLetter, tradeSideLetter, displayLetter, customerLetter};
+ghost use Rattle.messages.specs.Codes.{side_letter, trade_side_letter, display_letter, customer_letter};
 ghost use Rattle.messages.specs.Letters.{side_member, trade_side_member, display_member, customer_member};
 
 use fields::letter::Lettered;
@@ -33,7 +33,7 @@ pub enum Customer {
 impl Lettered for Side {
     ghost letters = { 66 ∷ 83 ∷ [] };
 
-    ghost written = { sideLetter };
+    ghost written = { side_letter };
 
     ghost member = { side_member };
 
@@ -56,7 +56,7 @@ impl Lettered for Side {
 impl Lettered for TradeSide {
     ghost letters = { 66 ∷ [] };
 
-    ghost written = { tradeSideLetter };
+    ghost written = { trade_side_letter };
 
     ghost member = { trade_side_member };
 
@@ -77,7 +77,7 @@ impl Lettered for TradeSide {
 impl Lettered for Display {
     ghost letters = { 89 ∷ 78 ∷ [] };
 
-    ghost written = { displayLetter };
+    ghost written = { display_letter };
 
     ghost member = { display_member };
 
@@ -100,7 +100,7 @@ impl Lettered for Display {
 impl Lettered for Customer {
     ghost letters = { 82 ∷ 32 ∷ [] };
 
-    ghost written = { customerLetter };
+    ghost written = { customer_letter };
 
     ghost member = { customer_member };
 

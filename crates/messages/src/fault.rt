@@ -1,6 +1,6 @@
 // Why a line is no message, or a message cannot be written.
 ghost use Rattle.std.specs.Prelude.{◌≡◌};
-ghost use Rattle.messages.specs.declared.fault.MessageFault.TheVariants.{Field as ofField};
+ghost use Rattle.messages.specs.declared.fault.MessageFault.TheVariants.{Field as of_field};
 
 use layout::fault::FieldFault;
 
@@ -19,7 +19,7 @@ pub enum MessageFault {
 }
 
 impl From<FieldFault> for MessageFault {
-    ghost from_gives = { λ e r. r ≡ ofField e };
+    ghost from_gives = { λ e r. r ≡ of_field e };
 
     fn from(fault: FieldFault) -> MessageFault {
         MessageFault::Field(fault)

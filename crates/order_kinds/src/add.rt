@@ -1,6 +1,6 @@
 // Add Order, the short form: A.
 ghost use Rattle.messages.specs.declared.types.MessageType.TheVariants.{AddShort as kind};
-ghost use Rattle.messages.specs.Values.{addValues};
+ghost use Rattle.messages.specs.Values.{add_values};
 
 use fields::letter::{put_letter, put_mark, read_letter, read_mark};
 use fields::number::{check_number, put_number, read_number};
@@ -23,7 +23,7 @@ impl Kind for AddShort {
 
     ghost row = { kind };
 
-    ghost values = { addValues };
+    ghost values = { add_values };
 
     fn mark() -> u8 {
         Self::LETTER

@@ -1,6 +1,6 @@
 // Add Order, the long form: d.
 ghost use Rattle.messages.specs.declared.types.MessageType.TheVariants.{AddLong as kind};
-ghost use Rattle.messages.specs.Values.{attributedValues};
+ghost use Rattle.messages.specs.Values.{attributed_values};
 
 use fields::letter::{put_letter, put_mark, read_letter, read_mark};
 use fields::number::{check_number, put_number, read_number};
@@ -23,7 +23,7 @@ impl Kind for AddLong {
 
     ghost row = { kind };
 
-    ghost values = { attributedValues };
+    ghost values = { attributed_values };
 
     fn mark() -> u8 {
         Self::LETTER

@@ -1,6 +1,6 @@
 // Order Cancel: X.
 ghost use Rattle.messages.specs.declared.types.MessageType.TheVariants.{OrderCancel as kind};
-ghost use Rattle.messages.specs.Values.{cancelValues};
+ghost use Rattle.messages.specs.Values.{cancel_values};
 
 use fields::letter::{put_mark, read_mark};
 use fields::number::{check_number, put_number, read_number};
@@ -20,7 +20,7 @@ impl Kind for OrderCancel {
 
     ghost row = { kind };
 
-    ghost values = { cancelValues };
+    ghost values = { cancel_values };
 
     fn mark() -> u8 {
         Self::LETTER

@@ -1,6 +1,6 @@
 // Symbol Clear: s.
 ghost use Rattle.messages.specs.declared.types.MessageType.TheVariants.{SymbolClear as kind};
-ghost use Rattle.messages.specs.Values.{clearValues};
+ghost use Rattle.messages.specs.Values.{clear_values};
 
 use fields::letter::{put_mark, read_mark};
 use fields::number::{check_number, put_number, read_number};
@@ -22,7 +22,7 @@ impl Kind for SymbolClear {
 
     ghost row = { kind };
 
-    ghost values = { clearValues };
+    ghost values = { clear_values };
 
     fn mark() -> u8 {
         Self::LETTER

@@ -1,6 +1,6 @@
 // Order Executed: E.
 ghost use Rattle.messages.specs.declared.types.MessageType.TheVariants.{OrderExecuted as kind};
-ghost use Rattle.messages.specs.Values.{executedValues};
+ghost use Rattle.messages.specs.Values.{executed_values};
 
 use fields::letter::{put_mark, read_mark};
 use fields::number::{check_number, put_number, read_number};
@@ -20,7 +20,7 @@ impl Kind for OrderExecuted {
 
     ghost row = { kind };
 
-    ghost values = { executedValues };
+    ghost values = { executed_values };
 
     fn mark() -> u8 {
         Self::LETTER

@@ -1,8 +1,8 @@
 // From a letter to its kind, and from a kind to what it does.
 ghost use Rattle.std.specs.Prelude.{◌≡◌, Ok, Err, MatchResult};
-ghost use Rattle.layout.specs.Fields.{putFields};
+ghost use Rattle.layout.specs.Fields.{put_fields};
 ghost use Rattle.messages.specs.Layouts.{layout_of, length_of};
-ghost use Rattle.messages.specs.Lines.{types, typeAmong, readRow, readAs, told, checked};
+ghost use Rattle.messages.specs.Lines.{types, type_among, read_row, read_of_kind, told, checked};
 ghost use Rattle.messages.specs.Values.{type_of, values_of};
 
 use layout::fault::FieldFault;
@@ -21,7 +21,7 @@ use trade_kinds::trade_long::TradeLong;
 
 // The kind of that letter.
 pub(crate) fn type_of(letter: u8) -> Option<MessageType>
-    ensures { result ≡ typeAmong types letter }
+    ensures { result ≡ type_among types letter }
 {
     match letter {
         b's' => Some(MessageType::SymbolClear),
@@ -54,7 +54,7 @@ pub(crate) fn length_of(kind: MessageType) -> usize
 
 // The message of that kind in the line.
 pub(crate) fn read_as(kind: MessageType, line: &[u8]) -> Result<Message, MessageFault>
-    ensures { MatchResult result (λ m. readAs kind line.now ≡ Ok (told m)) (λ e. readAs kind line.now ≡ Err e) }
+    ensures { MatchResult result (λ m. read_of_kind kind line.now ≡ Ok (told m)) (λ e. read_of_kind kind line.now ≡ Err e) }
 {
     Ok(match kind {
         MessageType::SymbolClear => Message::SymbolClear(read_kind::<SymbolClear>(line)?),
@@ -70,7 +70,7 @@ pub(crate) fn read_as(kind: MessageType, line: &[u8]) -> Result<Message, Message
 
 // The record of that kind in the line.
 fn read_kind<K: Kind>(line: &[u8]) -> Result<K::Record, FieldFault>
-    ensures { MatchResult result (λ c. readRow K.Kind.row line.now ≡ Ok (K.values c)) (λ e. readRow K.Kind.row line.now ≡ Err e) }
+    ensures { MatchResult result (λ c. read_row K.Kind.row line.now ≡ Ok (K.values c)) (λ e. read_row K.Kind.row line.now ≡ Err e) }
 {
     K::read(line)
 }
@@ -109,7 +109,7 @@ pub(crate) fn check(message: &Message) -> Result<(), FieldFault>
 
 // Writes each field of the message over the bytes at its offset.
 pub(crate) fn put(message: &Message, room: &mut [u8])
-    ensures { room.new ≡ putFields (layout_of (type_of message.now)) (values_of message.now) room.old }
+    ensures { room.new ≡ put_fields (layout_of (type_of message.now)) (values_of message.now) room.old }
 {
     match message {
         Message::SymbolClear(clear) => SymbolClear::put(clear, room),

@@ -6,11 +6,11 @@ use Rattle.std.proofs.lemmas.List.{get_or-take, take_all, length-take, length-ta
 use Rattle.std.proofs.lemmas.Option.{slice_get_read}
 use Rattle.std.proofs.lemmas.Bool.{cases_lt, le-leb, lt-leb}
 use Rattle.store.specs.Lists.{Rising, lookup}
-use Rattle.store.specs.Models.{Model, insertSays, inserted, replaceSays, replacing, removing}
+use Rattle.store.specs.Models.{Model, insert_says, inserted, replace_says, replacing, removing}
 use Rattle.store.specs.declared.refusal.InsertRefusal.TheVariants.{Taken, Full}
 use Rattle.store.specs.declared.refusal.ReplaceRefusal.TheVariants.{Missing}
 use Rattle.row_store.specs.Places.{Stands, Goes}
-use Rattle.row_store.specs.Rows.{InOrder, modelOf}
+use Rattle.row_store.specs.Rows.{InOrder, model_of}
 use Rattle.row_store.proofs.Places.{held-where-found, not-held, found, missing, replaced-found, replaced-missing, rising-set, placed-missing, rising-inserted, without-found, without-missing, rising-removed}
 
 module _ {X : Type 0} where
@@ -38,28 +38,28 @@ module _ {X : Type 0} (key : X → ℕ) where
 
   module _ (n : ℕ) (xs : List X) (i : ℕ) (h : InOrder key n xs) where
     -- insert
-    pub taken-says : (r : X) → Stands key (key r) (take n xs) i → Err Taken ≡ insertSays key r (modelOf n xs)
+    pub taken-says : (r : X) → Stands key (key r) (take n xs) i → Err Taken ≡ insert_says key r (model_of n xs)
     taken-says r s = rw (held-where-found key (key r) (take n xs) i s h.1) refl
 
-    pub taken-leaves : (r : X) → Stands key (key r) (take n xs) i → modelOf n xs ≡ inserted key r (modelOf n xs)
+    pub taken-leaves : (r : X) → Stands key (key r) (take n xs) i → model_of n xs ≡ inserted key r (model_of n xs)
     taken-leaves r s = rw (held-where-found key (key r) (take n xs) i s h.1) refl
 
-    pub full-says : (r : X) → Goes key (key r) (take n xs) i → length xs ≤ n → Err Full ≡ insertSays key r (modelOf n xs)
+    pub full-says : (r : X) → Goes key (key r) (take n xs) i → length xs ≤ n → Err Full ≡ insert_says key r (model_of n xs)
     full-says r s l =
         rw (not-held key (key r) (take n xs) i s h.1)
         (let e = length-take-le n xs h.0 in rw (le-leb (length xs) (length (take n xs)) (omega arith)) refl)
 
-    pub full-leaves : (r : X) → Goes key (key r) (take n xs) i → length xs ≤ n → modelOf n xs ≡ inserted key r (modelOf n xs)
+    pub full-leaves : (r : X) → Goes key (key r) (take n xs) i → length xs ≤ n → model_of n xs ≡ inserted key r (model_of n xs)
     full-leaves r s l =
         rw (not-held key (key r) (take n xs) i s h.1)
         (let e = length-take-le n xs h.0 in rw (le-leb (length xs) (length (take n xs)) (omega arith)) refl)
 
-    pub taken-in-says : (r : X) → Goes key (key r) (take n xs) i → n < length xs → Ok tt ≡ insertSays key r (modelOf n xs)
+    pub taken-in-says : (r : X) → Goes key (key r) (take n xs) i → n < length xs → Ok tt ≡ insert_says key r (model_of n xs)
     taken-in-says r s l =
         rw (not-held key (key r) (take n xs) i s h.1)
         (let e = length-take-le n xs h.0 in rw (lt-leb (length xs) (length (take n xs)) (omega arith)) refl)
 
-    pub taken-in-leaves : (r : X) (ys : List X) → Goes key (key r) (take n xs) i → n < length xs → length ys ≡ length xs → take (n + 1) ys ≡ holes.insert (take n xs) i r → modelOf (n + 1) ys ≡ inserted key r (modelOf n xs)
+    pub taken-in-leaves : (r : X) (ys : List X) → Goes key (key r) (take n xs) i → n < length xs → length ys ≡ length xs → take (n + 1) ys ≡ holes.insert (take n xs) i r → model_of (n + 1) ys ≡ inserted key r (model_of n xs)
     taken-in-leaves r ys s l long e =
         rw (not-held key (key r) (take n xs) i s h.1)
         (let size = length-take-le n xs h.0 in
@@ -71,7 +71,7 @@ module _ {X : Type 0} (key : X → ℕ) where
         (omega arith, subst (Rising key) (sym e) (rising-inserted key r (take n xs) i s h.1))
 
     -- replace
-    pub replaced-says : (r : X) → Stands key (key r) (take n xs) i → Ok tt ≡ replaceSays key r (modelOf n xs)
+    pub replaced-says : (r : X) → Stands key (key r) (take n xs) i → Ok tt ≡ replace_says key r (model_of n xs)
     replaced-says r s = rw (held-where-found key (key r) (take n xs) i s h.1) refl
 
     row-set : (r : X) → Stands key (key r) (take n xs) i → take n (set xs i r) ≡ set (take n xs) i r
@@ -80,7 +80,7 @@ module _ {X : Type 0} (key : X → ℕ) where
         let e = length-take n xs in
         take-set-lt n xs i r (omega arith)
 
-    pub replaced-leaves : (r : X) → Stands key (key r) (take n xs) i → modelOf n (set xs i r) ≡ replacing key r (modelOf n xs)
+    pub replaced-leaves : (r : X) → Stands key (key r) (take n xs) i → model_of n (set xs i r) ≡ replacing key r (model_of n xs)
     replaced-leaves r s =
         same-model _ _ (row-set r s ∙ sym (replaced-found key r (take n xs) i s h.1)) (length-set xs i r)
 
@@ -90,10 +90,10 @@ module _ {X : Type 0} (key : X → ℕ) where
         let low = h.0 in
         (omega arith, subst (Rising key) (sym (row-set r s)) (rising-set key r (take n xs) i s h.1))
 
-    pub missing-says : (r : X) → Goes key (key r) (take n xs) i → Err Missing ≡ replaceSays key r (modelOf n xs)
+    pub missing-says : (r : X) → Goes key (key r) (take n xs) i → Err Missing ≡ replace_says key r (model_of n xs)
     missing-says r s = rw (not-held key (key r) (take n xs) i s h.1) refl
 
-    pub missing-leaves : (r : X) → Goes key (key r) (take n xs) i → modelOf n xs ≡ replacing key r (modelOf n xs)
+    pub missing-leaves : (r : X) → Goes key (key r) (take n xs) i → model_of n xs ≡ replacing key r (model_of n xs)
     missing-leaves r s = same-model _ _ (sym (replaced-missing key r (take n xs) i s h.1)) refl
 
     -- remove
@@ -104,7 +104,7 @@ module _ {X : Type 0} (key : X → ℕ) where
         let low : i < n = omega arith in
         sym (found key k (take n xs) i s h.1 ∙ slice_get_read (take n xs) _ i x refl s.inside (e ∙ sym (get_or-take n xs i x low)))
 
-    pub removed-leaves : (k m : ℕ) (ys : List X) → Stands key k (take n xs) i → length ys ≡ length xs → take m ys ≡ holes.remove (take n xs) i → modelOf m ys ≡ removing key k (modelOf n xs)
+    pub removed-leaves : (k m : ℕ) (ys : List X) → Stands key k (take n xs) i → length ys ≡ length xs → take m ys ≡ holes.remove (take n xs) i → model_of m ys ≡ removing key k (model_of n xs)
     removed-leaves k m ys s long e = same-model _ _ (e ∙ sym (without-found key k (take n xs) i s h.1)) long
 
     pub removed-still : (k m : ℕ) (ys : List X) → Stands key k (take n xs) i → length ys ≡ length xs → m ≤ length xs → take m ys ≡ holes.remove (take n xs) i → InOrder key m ys
@@ -113,5 +113,5 @@ module _ {X : Type 0} (key : X → ℕ) where
     pub unheld-says : (k : ℕ) → Goes key k (take n xs) i → None ≡ lookup key k (take n xs)
     unheld-says k s = sym (missing key k (take n xs) i s h.1)
 
-    pub unheld-leaves : (k : ℕ) → Goes key k (take n xs) i → modelOf n xs ≡ removing key k (modelOf n xs)
+    pub unheld-leaves : (k : ℕ) → Goes key k (take n xs) i → model_of n xs ≡ removing key k (model_of n xs)
     unheld-leaves k s = same-model _ _ (sym (without-missing key k (take n xs) i s h.1)) refl

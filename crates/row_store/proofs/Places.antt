@@ -4,7 +4,7 @@ use Rattle.std.specs.List.{slice_get, insert, remove}
 use Rattle.std.proofs.lemmas.List.{take-append-drop, take_more, drop_all, drop-append-le, length-take, length-take-le, set_split}
 use Rattle.std.proofs.lemmas.Option.{slice_get_read}
 use Rattle.std.proofs.lemmas.Bool.{le-leb}
-use Rattle.store.specs.Lists.{Rising, lookup, holds, firstFrom, placed, replaced, without}
+use Rattle.store.specs.Lists.{Rising, lookup, holds, first_from, placed, replaced, without}
 use Rattle.store.proofs.Each.{Absent, Lower, Higher, each-join, each-so, absent-lower, absent-higher}
 use Rattle.store.proofs.Keyed.{lookup_absent, holds-absent, lookup-at, without-absent, without_at, replaced-absent, replaced-at, placed-between, from_past, from_at, lower-front, rising-in, rising-out, rising-exchanged}
 use Rattle.row_store.specs.Places.{Stands, Goes, Sought}
@@ -70,7 +70,7 @@ module _ {X : Type 0} (key : X → ℕ) where
     pub held-where-found : Stands key k xs i → Rising key xs → holds key k xs ≡ true
     held-where-found s h = let e = found s h in let n = s.here in cc (ap is_some e)
 
-    from_found : Stands key k xs i → Rising key xs → firstFrom key k xs ≡ slice_get xs i
+    from_found : Stands key k xs i → Rising key xs → first_from key k xs ≡ slice_get xs i
     from_found s h =
         let e = cut xs i s.item s.here in
         let same = s.same in
@@ -87,11 +87,11 @@ module _ {X : Type 0} (key : X → ℕ) where
     pub missing : Goes key k xs i → Rising key xs → lookup key k xs ≡ None
     missing s h = lookup_absent key k xs (absent s h)
 
-    first-higher : (back : List X) → Higher key k back → firstFrom key k back ≡ slice_get back 0
+    first-higher : (back : List X) → Higher key k back → first_from key k back ≡ slice_get back 0
     first-higher [] u = refl
     first-higher (x ∷ back) u = let l : k < key x = u.0 in rw (le-leb k (key x) (omega arith)) refl
 
-    from-missing : Goes key k xs i → Rising key xs → firstFrom key k xs ≡ slice_get xs i
+    from-missing : Goes key k xs i → Rising key xs → first_from key k xs ≡ slice_get xs i
     from-missing s h =
         let e = take-append-drop i xs in
         let p = from_past key k (take i xs) (drop i xs) (s.lower h) in
@@ -100,7 +100,7 @@ module _ {X : Type 0} (key : X → ℕ) where
         cc
 
     -- either way
-    pub from-sought : (r : Result ℕ ℕ) → Sought key k xs r → (r ≡ Ok i) ⊎ (r ≡ Err i) → Rising key xs → firstFrom key k xs ≡ slice_get xs i
+    pub from-sought : (r : Result ℕ ℕ) → Sought key k xs r → (r ≡ Ok i) ⊎ (r ≡ Err i) → Rising key xs → first_from key k xs ≡ slice_get xs i
     from-sought r s w h =
         ⊎_elim
         (λ e. from_found (subst (Sought key k xs) e s) h)

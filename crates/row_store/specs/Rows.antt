@@ -4,8 +4,8 @@ use Rattle.store.specs.Lists.{Rising}
 use Rattle.store.specs.Models.{Model}
 
 -- the store that they are: as many records as there are rows is the most
-abbrev pub modelOf : {X : Type 0} → ℕ → List X → Model X
-modelOf n xs = record { rows = take n xs; limit = length xs }
+abbrev pub model_of : {X : Type 0} → ℕ → List X → Model X
+model_of n xs = record { rows = take n xs; limit = length xs }
 
 -- the records are among the rows, by rising key
 abbrev pub InOrder : {X : Type 0} → (X → ℕ) → ℕ → List X → Type 0

@@ -1,5 +1,5 @@
 // The rows as a store.
-ghost use Rattle.row_store.specs.Rows.{InOrder, modelOf, from};
+ghost use Rattle.row_store.specs.Rows.{InOrder, model_of, from};
 
 use crate::change::{insert_row, remove_row, replace_row};
 use crate::row::RowStore;
@@ -13,11 +13,11 @@ use store::visit::Visit;
 use tally::measure::Measure;
 
 impl<'a, R: Record> Store<R> for RowStore<'a, R> {
-    ghost model = { λ s. modelOf s.count s.rows.now };
+    ghost model = { λ s. model_of s.count s.rows.now };
 
     ghost ready = { λ s. InOrder R.Record.key s.count s.rows.now };
 
-    ghost ahead = { λ s. from (modelOf s.count s.rows.now).rows };
+    ghost ahead = { λ s. from (model_of s.count s.rows.now).rows };
 
     fn limit(&self) -> u64 {
         self.rows.len() as u64

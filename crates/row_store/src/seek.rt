@@ -1,7 +1,7 @@
 // Where a record stands among the rows, or would.
 ghost use Rattle.std.specs.Prelude.{◌≡◌, length, take};
 ghost use Rattle.std.specs.List.{slice_get};
-ghost use Rattle.store.specs.Lists.{Rising, lookup, firstFrom};
+ghost use Rattle.store.specs.Lists.{Rising, lookup, first_from};
 ghost use Rattle.store.specs.Visits.{Visited, Covers};
 ghost use Rattle.row_store.specs.Places.{Sought};
 ghost use Rattle.row_store.specs.Rows.{from};
@@ -57,7 +57,7 @@ pub(crate) fn find_row<R: Record>(rows: &[R], key: u64) -> Option<R>
 }
 
 pub(crate) fn row_from<R: Record>(rows: &[R], key: u64) -> Option<R>
-    ensures { Rising R.Record.key rows.now → result ≡ firstFrom R.Record.key key rows.now }
+    ensures { Rising R.Record.key rows.now → result ≡ first_from R.Record.key key rows.now }
 {
     match seek(rows, key) {
         Ok(place) | Err(place) => row_at(rows, place),

@@ -2,8 +2,8 @@
 ghost use Rattle.std.specs.Prelude.{◌≡◌, map};
 ghost use Rattle.store.specs.Lists.{those};
 ghost use Rattle.store.specs.Models.{sweeping};
-ghost use Rattle.tally.specs.Joining.{joinedAll};
-ghost use Rattle.row_store.specs.Rows.{InOrder, modelOf};
+ghost use Rattle.tally.specs.Joining.{joined_all};
+ghost use Rattle.row_store.specs.Rows.{InOrder, model_of};
 
 use store::pick::Pick;
 use store::record::Record;
@@ -17,8 +17,8 @@ pub(crate) fn sweep_rows<R: Record, P: Pick<R>, M: Measure<R>>(
     pick: &P,
     measure: &M,
 ) -> M::Out
-    ensures says { result ≡ joinedAll M.Out.Tally.none M.Out.Tally.joining (map (M.Measure.given measure.now) (those (P.Pick.picked pick.now) (modelOf count.old rows.old).rows)) }
-    ensures leaves { modelOf count.new rows.new ≡ sweeping (P.Pick.picked pick.now) (modelOf count.old rows.old) }
+    ensures says { result ≡ joined_all M.Out.Tally.none M.Out.Tally.joining (map (M.Measure.given measure.now) (those (P.Pick.picked pick.now) (model_of count.old rows.old).rows)) }
+    ensures leaves { model_of count.new rows.new ≡ sweeping (P.Pick.picked pick.now) (model_of count.old rows.old) }
     ensures still { InOrder R.Record.key count.old rows.old → InOrder R.Record.key count.new rows.new }
 {
     let n = (*count).min(rows.len());

@@ -1,9 +1,9 @@
 // Sums over the fields of messages and of refusals.
 ghost use Rattle.std.specs.Prelude.{◌≡◌, ◌∷◌};
 ghost use Rattle.messages.specs.Faults.{number_of, carried_of};
-ghost use Rattle.messages.specs.Lines.{readLine};
+ghost use Rattle.messages.specs.Lines.{line_read};
 ghost use Rattle.messages.specs.Values.{values_of};
-ghost use Rattle.speed.specs.Checksum.{mixed, mixedAll, afterLine};
+ghost use Rattle.speed.specs.Checksum.{mixed, mixed_all, after_line};
 
 use fields::letter::Lettered;
 use layout::fault::FieldFault;
@@ -14,7 +14,7 @@ use pitch::reader::read;
 
 // The sum with what the line says, or why it is no message.
 pub(crate) fn add_line(sum: u64, line: &[u8]) -> u64
-    ensures { result ≡ afterLine sum (readLine line.now) }
+    ensures { result ≡ after_line sum (line_read line.now) }
 {
     match read(line) {
         Ok(message) => add_message(sum, &message),
@@ -24,7 +24,7 @@ pub(crate) fn add_line(sum: u64, line: &[u8]) -> u64
 
 // The sum with each field of the message.
 fn add_message(sum: u64, message: &Message) -> u64
-    ensures { result ≡ mixedAll sum (values_of message.now) }
+    ensures { result ≡ mixed_all sum (values_of message.now) }
 {
     match message {
         Message::SymbolClear(m) => mix(mix(mix(sum, m.time), b's' as u64), m.symbol),
@@ -60,7 +60,7 @@ fn add_message(sum: u64, message: &Message) -> u64
 
 // The sum with the refusal's number and what it carries.
 fn add_fault(sum: u64, fault: &MessageFault) -> u64
-    ensures { result ≡ mixedAll sum (number_of fault.now ∷ carried_of fault.now) }
+    ensures { result ≡ mixed_all sum (number_of fault.now ∷ carried_of fault.now) }
 {
     let sum = mix(sum, number_of(fault) as u64);
     match fault {

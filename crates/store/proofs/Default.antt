@@ -1,8 +1,8 @@
 -- Sweeping by going from key to key: the records below the key are done, those at or above it still to come.
 use Rattle.std.proofs.Common.{◌≡◌, ℕ, ◌+◌, ◌^◌, ◌<◌, ◌≤◌, Bool, true, false, List, [], ◌∷◌, ◌++◌, map, length, Some, sym, refl, ap, ◌∙◌, append_assoc, append-nil, arith, length-append}
-use Rattle.tally.specs.Joining.{joinedAll}
+use Rattle.tally.specs.Joining.{joined_all}
 use Rattle.tally.proofs.Laws.{joined-more}
-use Rattle.store.specs.Lists.{Each, Rising, firstFrom, without, those, others}
+use Rattle.store.specs.Lists.{Each, Rising, first_from, without, those, others}
 use Rattle.store.specs.Models.{Model, sweeping, removing}
 use Rattle.store.proofs.Each.{Lower, Higher, each-join, each-so, absent-lower}
 use Rattle.store.proofs.Keyed.{from_at, without_at, higher-back}
@@ -18,7 +18,7 @@ pub record SweptTo {X M : Type 0} (key : X → ℕ) (p : X → Bool) (given : X 
   pub counted : length done ≡ turns
   pub rows : is.rows ≡ others p done ++ coming
   pub limit : is.limit ≡ was.limit
-  pub total : t ≡ joinedAll none joining (map given (those p done))
+  pub total : t ≡ joined_all none joining (map given (those p done))
   pub below : 0 < length coming → Lower key k done
   pub from : Each (λ x. k ≤ key x) coming
 
@@ -27,7 +27,7 @@ pub record Next {X : Type 0} (key : X → ℕ) (is : Model X) (coming : List X) 
   pub first : X
   pub rest : List X
   pub split : coming ≡ first ∷ rest
-  pub found : firstFrom key k is.rows ≡ Some first
+  pub found : first_from key k is.rows ≡ Some first
 
 module _ {X M : Type 0} (key : X → ℕ) (narrow : (x : X) → key x < 2 ^ 64) (p : X → Bool) (given : X → M) (none : M) (joining : M → M → M)
     (associative : (x y z : M) → joining (joining x y) z ≡ joining x (joining y z))
@@ -55,7 +55,7 @@ module _ {X M : Type 0} (key : X → ℕ) (narrow : (x : X) → key x < 2 ^ 64) 
     first = r;
     rest = rest;
     split = refl;
-    found = ap (firstFrom key k) s.rows
+    found = ap (first_from key k) s.rows
         ∙ from_at key k (others p done) r rest (each-others p (λ x. key x < k) done (s.below (omega arith))) s.from.0;
   }
 
@@ -99,7 +99,7 @@ module _ {X M : Type 0} (key : X → ℕ) (narrow : (x : X) → key x < 2 ^ 64) 
       rows = ap (λ (m : Model X). m.rows) same ∙ s.rows ∙ ap (λ z. others p done ++ z) split ∙ sym (append_assoc (others p done) (r ∷ []) rest)
           ∙ ap (λ z. z ++ rest) (sym (others-append p done (r ∷ []) ∙ ap (λ z. others p done ++ z) (rw e refl)));
       limit = ap (λ (m : Model X). m.limit) same ∙ s.limit;
-      total = s.total ∙ ap (λ z. joinedAll none joining (map given z)) (sym (those-append p done (r ∷ []) ∙ ap (λ z. those p done ++ z) (rw e refl) ∙ append-nil (those p done)));
+      total = s.total ∙ ap (λ z. joined_all none joining (map given z)) (sym (those-append p done (r ∷ []) ∙ ap (λ z. those p done ++ z) (rw e refl) ∙ append-nil (those p done)));
       below = lower-now;
       from = above-now;
     }
@@ -117,21 +117,21 @@ module _ {X M : Type 0} (key : X → ℕ) (narrow : (x : X) → key x < 2 ^ 64) 
           limit = ap (λ (m : Model X). m.limit) out ∙ s.limit;
           total = ap (λ z. joining z (given r)) s.total
               ∙ joined-more none joining associative commutative neutral given (those p done) r
-              ∙ ap (λ z. joinedAll none joining (map given z)) (sym (those-append p done (r ∷ []) ∙ ap (λ z. those p done ++ z) (rw e refl)));
+              ∙ ap (λ z. joined_all none joining (map given z)) (sym (those-append p done (r ∷ []) ∙ ap (λ z. those p done ++ z) (rw e refl)));
           below = lower-now;
           from = above-now;
         }
 
   -- all are done
   pub record Swept (is : Model X) (t : M) : Type 0 where
-    pub total : t ≡ joinedAll none joining (map given (those p was.rows))
+    pub total : t ≡ joined_all none joining (map given (those p was.rows))
     pub leaves : is ≡ sweeping p was
 
   pub swept-ends : (is : Model X) (done coming : List X) (t : M) (k turns : ℕ) → SweptTo key p given none joining was is done coming t k turns → length was.rows ≤ turns → Swept is t
   swept-ends is done [] t k turns s l =
       let all : done ≡ was.rows = sym (append-nil done) ∙ s.whole in
       record {
-        total = s.total ∙ ap (λ z. joinedAll none joining (map given (those p z))) all;
+        total = s.total ∙ ap (λ z. joined_all none joining (map given (those p z))) all;
         leaves = same-model is (sweeping p was) (s.rows ∙ append-nil (others p done) ∙ ap (others p) all) s.limit;
       }
   swept-ends is done (r ∷ rest) t k turns s l =

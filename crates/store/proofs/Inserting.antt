@@ -1,9 +1,9 @@
 -- What generic code over any store comes to.
 use Rattle.std.proofs.Common.{◌≡◌, ℕ, false, eqb, leb, List, [], ◌∷◌, length, Ok, ap, ⊎_elim, arith}
 use Rattle.std.proofs.lemmas.Bool.{cases_Bool, eqb-false}
-use Rattle.store.specs.Clients.{insertedFound}
+use Rattle.store.specs.Clients.{inserted_found}
 use Rattle.store.specs.Lists.{lookup, holds}
-use Rattle.store.specs.Models.{Model, insertSays, inserted}
+use Rattle.store.specs.Models.{Model, insert_says, inserted}
 use Rattle.store.proofs.Each.{Absent}
 use Rattle.store.proofs.Placed.{lookup-placed}
 
@@ -16,7 +16,7 @@ module _ {X : Type 0} (key : X → ℕ) where
       (λ e. (eqb-false (key x) k e, absent-unheld k xs (rw e at h)))
       (cases_Bool (eqb (key x) k))
 
-  pub found-inserted : (r : X) (m : Model X) (u : Unit {0}) → Ok u ≡ insertSays key r m → Ok (lookup key (key r) (inserted key r m).rows) ≡ insertedFound key r m
+  pub found-inserted : (r : X) (m : Model X) (u : Unit {0}) → Ok u ≡ insert_says key r m → Ok (lookup key (key r) (inserted key r m).rows) ≡ inserted_found key r m
   found-inserted r m u e =
       ⊎_elim
       (λ h. let z = rw h at e in let y : ◌≡◌ {A = ℕ} 0 1 = cc in absurd (omega arith))

@@ -1,7 +1,7 @@
 -- Lists of records by key, cut where a key stands or would stand: the part in front, the record, the part behind.
 use Rattle.std.proofs.Common.{◌≡◌, ℕ, ◌<◌, ◌≤◌, true, false, List, [], ◌∷◌, ◌++◌, is_some, Some, None, refl, ap, ◌∙◌, arith}
 use Rattle.std.proofs.lemmas.Bool.{ne_eqb, eq-eqb, lt-ltb, le-ltb, le-leb, lt-leb}
-use Rattle.store.specs.Lists.{Rising, lookup, holds, firstFrom, placed, replaced, without}
+use Rattle.store.specs.Lists.{Rising, lookup, holds, first_from, placed, replaced, without}
 use Rattle.store.proofs.Each.{Absent, Lower, Higher, each-join, each-front, each_back}
 
 module _ {X : Type 0} (key : X → ℕ) where
@@ -45,15 +45,15 @@ module _ {X : Type 0} (key : X → ℕ) where
       let u : key x < key r = l.0 in
       rw (le-ltb (key r) (key x) (omega arith)) (ap (λ t. x ∷ t) (placed-between r front back l.1 h))
 
-  pub from_past : (k : ℕ) (front back : List X) → Lower key k front → firstFrom key k (front ++ back) ≡ firstFrom key k back
+  pub from_past : (k : ℕ) (front back : List X) → Lower key k front → first_from key k (front ++ back) ≡ first_from key k back
   from_past k [] back l = refl
   from_past k (x ∷ front) back l = rw (lt-leb k (key x) l.0) (from_past k front back l.1)
 
-  pub from-lower : (k : ℕ) (xs : List X) → Lower key k xs → firstFrom key k xs ≡ None
+  pub from-lower : (k : ℕ) (xs : List X) → Lower key k xs → first_from key k xs ≡ None
   from-lower k [] l = refl
   from-lower k (x ∷ xs) l = rw (lt-leb k (key x) l.0) (from-lower k xs l.1)
 
-  pub from_at : (k : ℕ) (front : List X) (x : X) (back : List X) → Lower key k front → k ≤ key x → firstFrom key k (front ++ (x ∷ back)) ≡ Some x
+  pub from_at : (k : ℕ) (front : List X) (x : X) (back : List X) → Lower key k front → k ≤ key x → first_from key k (front ++ (x ∷ back)) ≡ Some x
   from_at k front x back l u = from_past k front (x ∷ back) l ∙ rw (le-leb k (key x) u) refl
 
   -- parts of rising lists rise

@@ -1,8 +1,8 @@
 -- The rules of a store hold of its definitions.
 use Rattle.std.proofs.Common.{◌≡◌, ℕ, suc, ◌<◌, ◌≤◌, Bool, true, false, leb, List, [], ◌∷◌, length, is_some, Some, None, Ok, Option, sym, refl, ap, ◌∙◌, ⊎_elim, arith}
 use Rattle.std.proofs.lemmas.Bool.{eq-eqb, ne_eqb, le-leb, lt-leb, leb-true, leb-false, cases_eq, cases_lt, cases_Bool, cases_order}
-use Rattle.store.specs.Lists.{Each, Rising, lookup, holds, firstFrom, replaced, without, others}
-use Rattle.store.specs.Models.{Model, insertSays, inserted, replacing}
+use Rattle.store.specs.Lists.{Each, Rising, lookup, holds, first_from, replaced, without, others}
+use Rattle.store.specs.Models.{Model, insert_says, inserted, replacing}
 use Rattle.store.specs.Rules.{Stored, Least, Rules}
 use Rattle.store.proofs.Each.{Absent, each-so, absent-higher, higher-more}
 use Rattle.store.proofs.Keyed.{lookup_absent, replaced-absent}
@@ -96,13 +96,13 @@ module _ {X : Type 0} (key : X → ℕ) where
       ⊎_elim (λ q. rw q rest) (λ q. rw q (lookup-later key (key x) y (others p ys) m ∙ rest)) (cases_Bool (p y)))
       (cases_eq (key y) (key x))
 
-  from_found : (xs : List X) (k : ℕ) (r : X) → Rising key xs → firstFrom key k xs ≡ Some r → Least key k xs r
+  from_found : (xs : List X) (k : ℕ) (r : X) → Rising key xs → first_from key k xs ≡ Some r → Least key k xs r
   from_found [] k r h e = absurd (none-some None r refl e)
   from_found (y ∷ ys) k r h e =
       ⊎_elim
       (λ t.
       let l = leb-true k (key y) t in
-      let s : y ≡ r = (let f : firstFrom key k (y ∷ ys) ≡ Some y = rw t refl in cc) in
+      let s : y ≡ r = (let f : first_from key k (y ∷ ys) ≡ Some y = rw t refl in cc) in
       let same = ap key s in
       record {
         found = lookup-here key (key r) y ys same ∙ ap Some s;
@@ -120,11 +120,11 @@ module _ {X : Type 0} (key : X → ℕ) where
       })
       (cases_Bool (leb k (key y)))
 
-  from-none : (xs : List X) (k : ℕ) → firstFrom key k xs ≡ None → Each (λ x. key x < k) xs
+  from-none : (xs : List X) (k : ℕ) → first_from key k xs ≡ None → Each (λ x. key x < k) xs
   from-none [] k e = tt
   from-none (y ∷ ys) k e =
       ⊎_elim
-      (λ t. absurd (none-some (firstFrom key k (y ∷ ys)) y e (rw t refl)))
+      (λ t. absurd (none-some (first_from key k (y ∷ ys)) y e (rw t refl)))
       (λ t. (leb-false k (key y) t, from-none ys k (rw t at e)))
       (cases_Bool (leb k (key y)))
 
@@ -160,7 +160,7 @@ module _ {X : Type 0} (key : X → ℕ) where
   unheld : (k : ℕ) (xs : List X) → lookup key k xs ≡ None → holds key k xs ≡ false
   unheld k xs e = ap is_some e
 
-  insert-stores : (m : Model X) (r : X) → Rising key m.rows → insertSays key r m ≡ Ok tt → Stored key r m (inserted key r m) 1
+  insert-stores : (m : Model X) (r : X) → Rising key m.rows → insert_says key r m ≡ Ok tt → Stored key r m (inserted key r m) 1
   insert-stores m r up e =
       ⊎_elim
       (λ h. let z = rw h at e in let y : ◌≡◌ {A = ℕ} 0 1 = cc in absurd (omega arith))

@@ -3,7 +3,7 @@ use Rattle.std.proofs.Common.{◌≡◌, ℕ, ◌<◌, Bool, true, false, ltb, L
 use mathlib.Core.List.Permᴰ
 use mathlib.Core.List.{Permᴰ}
 use Rattle.std.proofs.lemmas.Bool.{cases_Bool}
-use Rattle.tally.specs.Joining.{joinedAll}
+use Rattle.tally.specs.Joining.{joined_all}
 use Rattle.tally.proofs.Laws.{joined-permuted, neutral-right}
 use Rattle.store.specs.Lists.{Each, Rising, placed, those, others}
 
@@ -71,11 +71,11 @@ module _ {X M : Type 0} (p : X → Bool) (given : X → M) (none : M) (joining :
     (neutral : (x : M) → joining none x ≡ x) where
   -- what the picked records of a list give
   abbrev pub takings : List X → M
-  takings xs = joinedAll none joining (map given (those p xs))
+  takings xs = joined_all none joining (map given (those p xs))
 
   pub takings-none : (t : M) (xs : List X) → Each (λ x. p x ≡ false) xs → joining t (takings xs) ≡ t
   takings-none t xs h =
-      ap (λ zs. joining t (joinedAll none joining (map given zs))) (those-none p xs h) ∙ neutral-right none joining associative commutative neutral t
+      ap (λ zs. joining t (joined_all none joining (map given zs))) (those-none p xs h) ∙ neutral-right none joining associative commutative neutral t
 
   -- one picked record joined, the others are still to join
   pub takings-placed : (key : X → ℕ) (t : M) (r : X) (xs : List X) → p r ≡ true → joining (joining t (given r)) (takings xs) ≡ joining t (takings (placed key r xs))

@@ -2,7 +2,7 @@
 use Rattle.std.proofs.Common.{◌≡◌, ℕ, suc, ◌-◌, ◌≤◌, List, [], ◌∷◌, map, length, sym, refl, ap, ◌∙◌, arith}
 use mathlib.Core.List.Permᴰ
 use mathlib.Core.List.{Permᴰ}
-use Rattle.tally.specs.Joining.{joinedAll}
+use Rattle.tally.specs.Joining.{joined_all}
 use Rattle.tally.proofs.Laws.{joined-permuted, neutral-right}
 
 pub permuted-length : {X : Type 0} {xs ys : List X} → Permᴰ xs ys → length xs ≡ length ys
@@ -17,7 +17,7 @@ no_more (x ∷ xs) h = absurd (omega arith)
 
 -- what was met, with what is to come, is the whole
 pub record Walked {X M : Type 0} (given : X → M) (none : M) (joining : M → M → M) (rows coming : List X) (met : M) (left : ℕ) : Type 0 where
-  pub total : joining met (joinedAll none joining (map given coming)) ≡ joinedAll none joining (map given rows)
+  pub total : joining met (joined_all none joining (map given coming)) ≡ joined_all none joining (map given rows)
   pub count : left ≡ length coming
 
 module _ {X M : Type 0} (given : X → M) (none : M) (joining : M → M → M)
@@ -33,13 +33,13 @@ module _ {X M : Type 0} (given : X → M) (none : M) (joining : M → M → M)
   pub walk-on : (coming rest : List X) (r : X) (met : M) (left : ℕ) → coming ≡ r ∷ rest → Walked given none joining rows coming met left
       → Walked given none joining rows rest (joining met (given r)) (left - 1)
   walk-on coming rest r met left e w = record {
-    total = associative met (given r) (joinedAll none joining (map given rest)) ∙ ap (λ xs. joining met (joinedAll none joining (map given xs))) (sym e) ∙ w.total;
+    total = associative met (given r) (joined_all none joining (map given rest)) ∙ ap (λ xs. joining met (joined_all none joining (map given xs))) (sym e) ∙ w.total;
     count = let a = w.count in let b = ap length e in omega arith;
   }
 
-  pub walk_ends : (coming : List X) (met : M) (left : ℕ) → coming ≡ [] → Walked given none joining rows coming met left → met ≡ joinedAll none joining (map given rows)
+  pub walk_ends : (coming : List X) (met : M) (left : ℕ) → coming ≡ [] → Walked given none joining rows coming met left → met ≡ joined_all none joining (map given rows)
   walk_ends coming met left e w =
-      sym (ap (λ xs. joining met (joinedAll none joining (map given xs))) e ∙ neutral-right none joining associative commutative neutral met) ∙ w.total
+      sym (ap (λ xs. joining met (joined_all none joining (map given xs))) e ∙ neutral-right none joining associative commutative neutral met) ∙ w.total
 
-  pub walk-done : (coming : List X) (met : M) (left : ℕ) → left ≤ 0 → Walked given none joining rows coming met left → met ≡ joinedAll none joining (map given rows)
+  pub walk-done : (coming : List X) (met : M) (left : ℕ) → left ≤ 0 → Walked given none joining rows coming met left → met ≡ joined_all none joining (map given rows)
   walk-done coming met left h w = walk_ends coming met left (no_more coming (let a = w.count in omega arith)) w

@@ -21,9 +21,9 @@ abbrev pub holds : {X : Type 0} → (X → ℕ) → ℕ → List X → Bool
 holds key k xs = is_some (lookup key k xs)
 
 -- the first record whose key is at or above k: of rising keys, the one with the least
-abbrev pub firstFrom : {X : Type 0} → (X → ℕ) → ℕ → List X → Option X
-firstFrom key k [] = None
-firstFrom key k (x ∷ xs) = cond (nat_le k (key x)) (Some x) (firstFrom key k xs)
+abbrev pub first_from : {X : Type 0} → (X → ℕ) → ℕ → List X → Option X
+first_from key k [] = None
+first_from key k (x ∷ xs) = cond (nat_le k (key x)) (Some x) (first_from key k xs)
 
 -- with the record r put before the first greater key
 abbrev pub placed : {X : Type 0} → (X → ℕ) → X → List X → List X

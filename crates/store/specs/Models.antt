@@ -15,8 +15,8 @@ abbrev pub holding : {X : Type 0} → List X → Model X → Model X
 holding xs m = record { rows = xs; limit = m.limit }
 
 -- insert: taken if the key is held, then full if the count is at or above the limit
-abbrev pub insertSays : {X : Type 0} → (X → ℕ) → X → Model X → Result (Unit {0}) InsertRefusal
-insertSays key r m =
+abbrev pub insert_says : {X : Type 0} → (X → ℕ) → X → Model X → Result (Unit {0}) InsertRefusal
+insert_says key r m =
     cond (holds key (key r) m.rows) (Err Taken) (cond (nat_le m.limit (length m.rows)) (Err Full) (Ok tt))
 
 abbrev pub inserted : {X : Type 0} → (X → ℕ) → X → Model X → Model X
@@ -24,8 +24,8 @@ inserted key r m =
     cond (holds key (key r) m.rows) m (cond (nat_le m.limit (length m.rows)) m (holding (placed key r m.rows) m))
 
 -- replace: missing if the key is not held
-abbrev pub replaceSays : {X : Type 0} → (X → ℕ) → X → Model X → Result (Unit {0}) ReplaceRefusal
-replaceSays key r m = cond (holds key (key r) m.rows) (Ok tt) (Err Missing)
+abbrev pub replace_says : {X : Type 0} → (X → ℕ) → X → Model X → Result (Unit {0}) ReplaceRefusal
+replace_says key r m = cond (holds key (key r) m.rows) (Ok tt) (Err Missing)
 
 abbrev pub replacing : {X : Type 0} → (X → ℕ) → X → Model X → Model X
 replacing key r m = holding (replaced key r m.rows) m

@@ -2,8 +2,8 @@
 use Rattle.std.specs.Prelude.{◌≡◌, ℕ, ◌+◌, ◌<◌, ◌≤◌, Bool, true, false, List, length, Some, None, Ok, Err, ◌≢◌}
 use Rattle.store.specs.declared.refusal.InsertRefusal.TheVariants.{Taken, Full}
 use Rattle.store.specs.declared.refusal.ReplaceRefusal.TheVariants.{Missing}
-use Rattle.store.specs.Lists.{Rising, lookup, firstFrom}
-use Rattle.store.specs.Models.{Model, insertSays, inserted, replaceSays, replacing, removing, sweeping}
+use Rattle.store.specs.Lists.{Rising, lookup, first_from}
+use Rattle.store.specs.Models.{Model, insert_says, inserted, replace_says, replacing, removing, sweeping}
 
 -- every key but k is found as before, the keys rise, and the limit is the same
 pub record OthersStay {X : Type 0} (key : X → ℕ) (k : ℕ) (before after : Model X) : Type 0 where
@@ -30,15 +30,15 @@ pub record Least {X : Type 0} (key : X → ℕ) (k : ℕ) (xs : List X) (r : X) 
 
 -- each call of a store whose keys rise
 pub record Rules {X : Type 0} (key : X → ℕ) : Type 0 where
-  pub insert : (m : Model X) (r : X) → Rising key m.rows → insertSays key r m ≡ Ok tt → Stored key r m (inserted key r m) 1
-  pub taken : (m : Model X) (r x : X) → lookup key (key r) m.rows ≡ Some x → (insertSays key r m ≡ Err Taken) × (inserted key r m ≡ m)
-  pub full : (m : Model X) (r : X) → lookup key (key r) m.rows ≡ None → m.limit ≤ length m.rows → (insertSays key r m ≡ Err Full) × (inserted key r m ≡ m)
-  pub room : (m : Model X) (r : X) → lookup key (key r) m.rows ≡ None → length m.rows < m.limit → insertSays key r m ≡ Ok tt
-  pub replace : (m : Model X) (r x : X) → Rising key m.rows → lookup key (key r) m.rows ≡ Some x → (replaceSays key r m ≡ Ok tt) × Stored key r m (replacing key r m) 0
-  pub missing : (m : Model X) (r : X) → lookup key (key r) m.rows ≡ None → (replaceSays key r m ≡ Err Missing) × (replacing key r m ≡ m)
+  pub insert : (m : Model X) (r : X) → Rising key m.rows → insert_says key r m ≡ Ok tt → Stored key r m (inserted key r m) 1
+  pub taken : (m : Model X) (r x : X) → lookup key (key r) m.rows ≡ Some x → (insert_says key r m ≡ Err Taken) × (inserted key r m ≡ m)
+  pub full : (m : Model X) (r : X) → lookup key (key r) m.rows ≡ None → m.limit ≤ length m.rows → (insert_says key r m ≡ Err Full) × (inserted key r m ≡ m)
+  pub room : (m : Model X) (r : X) → lookup key (key r) m.rows ≡ None → length m.rows < m.limit → insert_says key r m ≡ Ok tt
+  pub replace : (m : Model X) (r x : X) → Rising key m.rows → lookup key (key r) m.rows ≡ Some x → (replace_says key r m ≡ Ok tt) × Stored key r m (replacing key r m) 0
+  pub missing : (m : Model X) (r : X) → lookup key (key r) m.rows ≡ None → (replace_says key r m ≡ Err Missing) × (replacing key r m ≡ m)
   pub remove : (m : Model X) (k : ℕ) → Rising key m.rows → Gone key k m (removing key k m)
   pub sweep : (m : Model X) (p : X → Bool) (x : X) → Rising key m.rows → lookup key (key x) m.rows ≡ Some x
       → (p x ≡ false → lookup key (key x) (sweeping p m).rows ≡ Some x) × (p x ≡ true → lookup key (key x) (sweeping p m).rows ≡ None)
-  pub from : (xs : List X) (k : ℕ) (r : X) → Rising key xs → firstFrom key k xs ≡ Some r → Least key k xs r
-  pub none : (xs : List X) (k : ℕ) → firstFrom key k xs ≡ None → (x : X) → lookup key (key x) xs ≡ Some x → key x < k
+  pub from : (xs : List X) (k : ℕ) (r : X) → Rising key xs → first_from key k xs ≡ Some r → Least key k xs r
+  pub none : (xs : List X) (k : ℕ) → first_from key k xs ≡ None → (x : X) → lookup key (key x) xs ≡ Some x → key x < k
   pub determined : (xs ys : List X) → Rising key xs → Rising key ys → ((k : ℕ) → lookup key k xs ≡ lookup key k ys) → xs ≡ ys

@@ -1,6 +1,6 @@
 // What any store does by its meaning alone.
 ghost use Rattle.std.specs.Prelude.{◌≡◌, min};
-ghost use Rattle.store.specs.Clients.{insertedFound, Listed};
+ghost use Rattle.store.specs.Clients.{inserted_found, Listed};
 
 use crate::record::{Record, next_key};
 use crate::refusal::InsertRefusal;
@@ -11,7 +11,7 @@ pub fn insert_then_find<R: Record, S: Store<R>>(
     store: &mut S,
     item: R,
 ) -> Result<Option<R>, InsertRefusal>
-    ensures { S.Store.ready store.old → result ≡ insertedFound R.Record.key item (S.Store.model store.old) }
+    ensures { S.Store.ready store.old → result ≡ inserted_found R.Record.key item (S.Store.model store.old) }
 {
     match store.insert(item) {
         Ok(()) => Ok(store.find(item.key())),

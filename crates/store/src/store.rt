@@ -3,10 +3,10 @@
 // The meaning holds from the first emptying on; a store that was never emptied answers anything, safely. No call changes the limit,
 // and questions and refusals change nothing.
 ghost use Rattle.std.specs.Prelude.{◌≡◌, ℕ, cond, List, map, length};
-ghost use Rattle.store.specs.Lists.{Rising, lookup, firstFrom, those};
-ghost use Rattle.store.specs.Models.{Model, insertSays, inserted, replaceSays, replacing, removing, sweeping, emptied};
+ghost use Rattle.store.specs.Lists.{Rising, lookup, first_from, those};
+ghost use Rattle.store.specs.Models.{Model, insert_says, inserted, replace_says, replacing, removing, sweeping, emptied};
 ghost use Rattle.store.specs.Visits.{Visited, Covers};
-ghost use Rattle.tally.specs.Joining.{joinedAll};
+ghost use Rattle.tally.specs.Joining.{joined_all};
 
 use crate::pick::Pick;
 use crate::record::{Record, next_key};
@@ -41,19 +41,19 @@ pub trait Store<R: Record> {
 
     // The record with the least key at or above one.
     fn from(&self, key: u64) -> Option<R>
-        ensures { ready self.now → result ≡ firstFrom R.Record.key key (model self.now).rows };
+        ensures { ready self.now → result ≡ first_from R.Record.key key (model self.now).rows };
 
     // The next record from a place on, in the store's own order; the first place is 0.
     fn visit(&self, place: u64) -> Option<Visit<R>>
         ensures { ready self.now → Visited (ahead self.now) place result };
 
     fn insert(&mut self, item: R) -> Result<(), InsertRefusal>
-        ensures says { ready self.old → result ≡ insertSays R.Record.key item (model self.old) }
+        ensures says { ready self.old → result ≡ insert_says R.Record.key item (model self.old) }
         ensures leaves { ready self.old → model self.new ≡ inserted R.Record.key item (model self.old) }
         ensures still { ready self.old → ready self.new };
 
     fn replace(&mut self, item: R) -> Result<(), ReplaceRefusal>
-        ensures says { ready self.old → result ≡ replaceSays R.Record.key item (model self.old) }
+        ensures says { ready self.old → result ≡ replace_says R.Record.key item (model self.old) }
         ensures leaves { ready self.old → model self.new ≡ replacing R.Record.key item (model self.old) }
         ensures still { ready self.old → ready self.new };
 
@@ -68,7 +68,7 @@ pub trait Store<R: Record> {
 
     // Removes every record that a test picks, and answers what they give together.
     fn sweep<P: Pick<R>, M: Measure<R>>(&mut self, pick: &P, measure: &M) -> M::Out
-        ensures says { ready self.old → result ≡ joinedAll M.Out.Tally.none M.Out.Tally.joining (map (M.Measure.given measure.now) (those (P.Pick.picked pick.now) (model self.old).rows)) }
+        ensures says { ready self.old → result ≡ joined_all M.Out.Tally.none M.Out.Tally.joining (map (M.Measure.given measure.now) (those (P.Pick.picked pick.now) (model self.old).rows)) }
         ensures leaves { ready self.old → model self.new ≡ sweeping (P.Pick.picked pick.now) (model self.old) }
         ensures still { ready self.old → ready self.new }
     {

@@ -1,7 +1,7 @@
 // The one walk: what the records of a store give together, whatever the store, the record and the tally.
 ghost use Rattle.std.specs.Prelude.{◌≡◌, List, map, length};
 ghost use mathlib.Core.List.{Permᴰ};
-ghost use Rattle.tally.specs.Joining.{joinedAll, InEveryOrder, JoinedInEveryOrder};
+ghost use Rattle.tally.specs.Joining.{joined_all, InEveryOrder, JoinedInEveryOrder};
 
 use crate::record::Record;
 use crate::store::Store;
@@ -10,7 +10,7 @@ use tally::tally::Tally;
 
 // Goes through the store in its own order, and stops when it has met as many records as are held.
 pub fn walk<R: Record, S: Store<R>, M: Measure<R>>(store: &S, measure: &M) -> M::Out
-    ensures says { S.Store.ready store.now → result ≡ joinedAll M.Out.Tally.none M.Out.Tally.joining (map (M.Measure.given measure.now) (S.Store.model store.now).rows) }
+    ensures says { S.Store.ready store.now → result ≡ joined_all M.Out.Tally.none M.Out.Tally.joining (map (M.Measure.given measure.now) (S.Store.model store.now).rows) }
     ensures anyhow { S.Store.ready store.now → InEveryOrder M.Out.Tally.none M.Out.Tally.joining (map (M.Measure.given measure.now) (S.Store.model store.now).rows) result }
 {
     walk_on(store, measure, 0, store.count())

@@ -8,8 +8,8 @@ left_of None = 0
 left_of (Some rest) = length rest
 
 -- the others are used
-abbrev pub usedOf : List ℕ → ℕ
-usedOf bytes = length bytes - left_of (after_end bytes)
+abbrev pub used_of : List ℕ → ℕ
+used_of bytes = length bytes - left_of (after_end bytes)
 
 -- one more, up to the most that a count holds
 abbrev pub more : ℕ → ℕ

@@ -1,8 +1,8 @@
 // Lines of an input, one at a time.
 ghost use Rattle.std.specs.Prelude.{◌≡◌, ◌++◌, length, take, is_some, if◌then◌else◌, Some, None, nat_eq};
 ghost use Rattle.capture.specs.Held.{held};
-ghost use Rattle.capture.specs.Splits.{beforeEnd, after_end};
-ghost use Rattle.store_calls.specs.Steps.{usedOf};
+ghost use Rattle.capture.specs.Splits.{before_end, after_end};
+ghost use Rattle.store_calls.specs.Steps.{used_of};
 
 use capture::buffer::LineBuffer;
 use capture::split::split_line;
@@ -37,8 +37,8 @@ pub fn next_line<R: BufRead>(input: &mut R) -> io::Result<Option<LineBuffer>> {
 
 // Adds the bytes up to the line end to the line.
 fn gather(line: &mut LineBuffer, bytes: &[u8]) -> Step
-    ensures line { held line.new ≡ take 255 (held line.old ++ beforeEnd bytes.now) }
-    ensures used { result.used ≡ usedOf bytes.now }
+    ensures line { held line.new ≡ take 255 (held line.old ++ before_end bytes.now) }
+    ensures used { result.used ≡ used_of bytes.now }
     ensures ended { result.ended ≡ is_some (after_end bytes.now) }
 {
     let (piece, next) = split_line(bytes);

@@ -3,9 +3,9 @@ use Rattle.std.specs.Prelude.{◌≡◌}
 use mathlib.Core.List.{List, [], ◌∷◌, ◌++◌, Permᴰ}
 
 -- a list's items joined one after another; no items give the empty tally
-abbrev pub joinedAll : {M : Type 0} → M → (M → M → M) → List M → M
-joinedAll none joining [] = none
-joinedAll none joining (x ∷ xs) = joining x (joinedAll none joining xs)
+abbrev pub joined_all : {M : Type 0} → M → (M → M → M) → List M → M
+joined_all none joining [] = none
+joined_all none joining (x ∷ xs) = joining x (joined_all none joining xs)
 
 -- a way to put brackets: nothing, one item, or two parts joined
 pub data Bracketing (M : Type 0) : Type 0 where
@@ -32,5 +32,5 @@ InEveryOrder {M} none joining xs r =
 
 -- r is what the items come to, in their order and in every other
 pub record JoinedInEveryOrder {M : Type 0} (none : M) (joining : M → M → M) (xs : List M) (r : M) : Type 0 where
-  pub says : r ≡ joinedAll none joining xs
+  pub says : r ≡ joined_all none joining xs
   pub anyhow : InEveryOrder none joining xs r

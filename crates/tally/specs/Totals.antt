@@ -4,15 +4,15 @@ use Rattle.std.proofs.Common.{arith}
 use Rattle.tally.specs.declared.total.Total.{Total}
 
 -- the greatest number held
-abbrev pub greatestTotal : ℕ
-greatestTotal = 2 ^ 64 - 1
+abbrev pub greatest_total : ℕ
+greatest_total = 2 ^ 64 - 1
 
-pub stops-below : (n : ℕ) → min n greatestTotal < 2 ^ 64
+pub stops-below : (n : ℕ) → min n greatest_total < 2 ^ 64
 stops-below n = omega arith
 
 -- the total of n, or the greatest where n is more
 abbrev pub total_of : ℕ → Total
-total_of n = record { number = min n greatestTotal; fits = stops-below n }
+total_of n = record { number = min n greatest_total; fits = stops-below n }
 
 -- two totals in one
 abbrev pub together : Total → Total → Total

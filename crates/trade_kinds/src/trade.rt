@@ -1,6 +1,6 @@
 // Trade, the short form: P.
 ghost use Rattle.messages.specs.declared.types.MessageType.TheVariants.{TradeShort as kind};
-ghost use Rattle.messages.specs.Values.{tradeValues};
+ghost use Rattle.messages.specs.Values.{trade_values};
 
 use fields::letter::{put_letter, put_mark, read_letter, read_mark};
 use fields::number::{check_number, put_number, read_number};
@@ -23,7 +23,7 @@ impl Kind for TradeShort {
 
     ghost row = { kind };
 
-    ghost values = { tradeValues kind };
+    ghost values = { trade_values kind };
 
     fn mark() -> u8 {
         Self::LETTER

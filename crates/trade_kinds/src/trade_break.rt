@@ -1,6 +1,6 @@
 // Trade Break: B.
 ghost use Rattle.messages.specs.declared.types.MessageType.TheVariants.{TradeBreak as kind};
-ghost use Rattle.messages.specs.Values.{breakValues};
+ghost use Rattle.messages.specs.Values.{break_values};
 
 use fields::letter::{put_mark, read_mark};
 use fields::number::{check_number, put_number, read_number};
@@ -20,7 +20,7 @@ impl Kind for TradeBreak {
 
     ghost row = { kind };
 
-    ghost values = { breakValues };
+    ghost values = { break_values };
 
     fn mark() -> u8 {
         Self::LETTER

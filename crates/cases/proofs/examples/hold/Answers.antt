@@ -1,9 +1,9 @@
 use Rattle.std.proofs.Common.{refl}
-use Rattle.layout.specs.Bytes.{worthOf}
-use Rattle.layout.specs.Slots.{firstFailing, value_of, scanSlot}
-use Rattle.messages.specs.Lines.{readRow}
+use Rattle.layout.specs.Bytes.{worth_of}
+use Rattle.layout.specs.Slots.{first_failing, value_of, scan_slot}
+use Rattle.messages.specs.Lines.{read_row}
 use Rattle.cases.proofs.examples.hold.Goals as goal
 
 pub returns : goal.returns
-unfolding worthOf firstFailing value_of scanSlot readRow
+unfolding worth_of first_failing value_of scan_slot read_row
 returns c = refl

@@ -1,6 +1,6 @@
-use Rattle.messages.specs.Lines.{readRow}
+use Rattle.messages.specs.Lines.{read_row}
 use Rattle.pitch.proofs.dispatch.read_kind.Goals as goal
 
 pub returns : goal.returns
-unfolding readRow
+unfolding read_row
 returns g c = c.read.ensures

@@ -1,6 +1,6 @@
 use Rattle.std.proofs.Common.{◌≡◌, ◌<◌, true, false, map, length, take, sym, ap, ◌∙◌, subst, arith}
 use Rattle.store.specs.Lists.{Rising, those, others}
-use Rattle.tally.specs.Joining.{joinedAll}
+use Rattle.tally.specs.Joining.{joined_all}
 use Rattle.row_store.proofs.Changes.{counted, same-model}
 use Rattle.tally.proofs.Laws.{joined-more}
 use Rattle.store.proofs.Sweeps.{rising-others}
@@ -20,7 +20,7 @@ loop-i-preserved g c =
     let in' : i < length xs = omega arith in
     let h = c.loop-i.invariant.0 in
     let read = c.index-rows-i.is in
-    let joined = joinedAll g.M.Out.Tally.none g.M.Out.Tally.joining in
+    let joined = joined_all g.M.Out.Tally.none g.M.Out.Tally.joining in
     let f = g.M.Measure.given c.args.measure.now in
     elim c.if-picks.branch [
       | then-picks w ↦
