@@ -1,6 +1,6 @@
 //! The loads of the program `churn` over the standard library's hash map, printed in the same words.
 //!
-//! stores LOAD SLOTS LIVE PAIRS [time]; the slots are not used, since a map has none to lend.
+//! stores LOAD ROOM LIVE PAIRS [time]; the map is made with room for so many orders.
 
 use std::collections::HashMap;
 use std::hint::black_box;
@@ -209,10 +209,10 @@ fn walk(map: &HashMap<u64, Order>) -> u64 {
     met
 }
 
-fn run_load(load: Load, live: &mut [u64], pairs: u64, asked: bool) {
+fn run_load(load: Load, room: usize, live: &mut [u64], pairs: u64, asked: bool) {
     let mut feed = Feed::new(load);
     let mut counts = Counts::default();
-    let mut map = HashMap::with_capacity(live.len());
+    let mut map = HashMap::with_capacity(room);
     let mut watch = Watch { asked, start: Instant::now() };
     counts.fill(&mut map, &mut feed, live);
     watch.lap("fill", live.len() as u64);
@@ -240,7 +240,7 @@ fn main() {
     let mut live = vec![0; size(3) as usize];
     for load in LOADS {
         if words[1] == "all" || words[1] == load.name() {
-            run_load(load, &mut live, size(4), words.len() > 5);
+            run_load(load, size(2) as usize, &mut live, size(4), words.len() > 5);
         }
     }
 }

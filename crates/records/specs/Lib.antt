@@ -1,1 +1,2 @@
+pub mod KeysLemmas
 pub mod Values

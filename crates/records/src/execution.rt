@@ -1,6 +1,6 @@
 // An execution: shares that traded.
 ghost use Rattle.std.specs.Prelude.{◌%◌, ◌^◌};
-ghost use Rattle.std.proofs.Common.{rules};
+ghost use Rattle.records.specs.KeysLemmas as Keys;
 
 use store::record::Record;
 
@@ -21,7 +21,7 @@ pub struct Execution {
 impl Record for Execution {
     ghost key = { λ e. e.id % 2 ^ 64 };
 
-    ghost narrow = { Prim.search rules };
+    ghost narrow = { λ e. Keys.narrow e.id };
 
     fn key(&self) -> u64 {
         self.id

@@ -1,6 +1,6 @@
 // An order that stands in the book.
 ghost use Rattle.std.specs.Prelude.{◌%◌, ◌^◌};
-ghost use Rattle.std.proofs.Common.{rules};
+ghost use Rattle.records.specs.KeysLemmas as Keys;
 
 use messages::code::{Display, Side};
 use store::record::Record;
@@ -24,7 +24,7 @@ pub struct Order {
 impl Record for Order {
     ghost key = { λ o. o.id % 2 ^ 64 };
 
-    ghost narrow = { Prim.search rules };
+    ghost narrow = { λ o. Keys.narrow o.id };
 
     fn key(&self) -> u64 {
         self.id

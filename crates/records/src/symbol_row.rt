@@ -1,7 +1,7 @@
 // What has traded of one symbol.
 ghost use Rattle.std.specs.Prelude.{◌+◌, ◌*◌, ◌%◌, ◌^◌};
 ghost use Rattle.records.specs.Values.{stopped, Parts};
-ghost use Rattle.std.proofs.Common.{rules};
+ghost use Rattle.records.specs.KeysLemmas as Keys;
 
 use crate::value::Value;
 use store::record::Record;
@@ -30,7 +30,7 @@ impl SymbolRow {
 impl Record for SymbolRow {
     ghost key = { λ r. r.symbol % 2 ^ 64 };
 
-    ghost narrow = { Prim.search rules };
+    ghost narrow = { λ r. Keys.narrow r.symbol };
 
     fn key(&self) -> u64 {
         self.symbol

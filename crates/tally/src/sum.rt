@@ -2,7 +2,6 @@
 ghost use Rattle.std.specs.Prelude.{◌≡◌, ◌+◌};
 ghost use Rattle.tally.specs.Totals.{total_of, together};
 ghost use Rattle.tally.specs.TotalsLemmas as Totals;
-ghost use Rattle.std.proofs.Common.{rules, arith};
 
 use crate::measure::Measure;
 use crate::tally::Tally;
@@ -31,7 +30,7 @@ impl Tally for Total {
 
     ghost associative = { Totals.associative };
 
-    ghost commutative = { first_of (Prim.search rules, Prim.grind (arith, Self.row.coded.inj)) };
+    ghost commutative = { Totals.commutative };
 
     ghost neutral = { Totals.neutral };
 
