@@ -1,4 +1,5 @@
 // What the program is asked.
+use crate::kind::Kind;
 use crate::load::Load;
 use anyhow::{Context, anyhow};
 use std::env;
@@ -12,6 +13,8 @@ pub struct Sizes {
 
 #[derive(Drop)]
 pub struct Arguments {
+    // a store's name, or `all`
+    pub store: String,
     // a load's name, or `all`
     pub load: String,
     pub sizes: Sizes,
@@ -19,6 +22,11 @@ pub struct Arguments {
 }
 
 impl Arguments {
+    // Whether loads are to be run on a store.
+    pub fn names(&self, kind: Kind) -> bool {
+        self.store.as_str() == "all" || self.store.as_str() == kind.name()
+    }
+
     // Whether a load is to be run.
     pub fn takes(&self, load: Load) -> bool {
         self.load.as_str() == "all" || self.load.as_str() == load.name()
@@ -28,6 +36,7 @@ impl Arguments {
 pub fn read(rt: &HostRuntime) -> anyhow::Result<Arguments> {
     let mut words = env::args(rt)?;
     let _program = words.next();
+    let store = words.next().context("no store")?;
     let load = words.next().context("no load")?;
     let sizes = Sizes {
         slots: number(words.next())? as usize,
@@ -35,6 +44,7 @@ pub fn read(rt: &HostRuntime) -> anyhow::Result<Arguments> {
         pairs: number(words.next())?,
     };
     Ok(Arguments {
+        store,
         load,
         sizes,
         timed: words.next().is_some(),

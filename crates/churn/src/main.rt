@@ -1,11 +1,12 @@
-// Runs loads of adds and removes over a hashed store, and prints what was counted; how long each part took where that is asked.
+// Runs loads of adds and removes over a store, and prints what was counted; how long each part took where that is asked.
 //
-// churn LOAD SLOTS LIVE PAIRS [time]
+// churn STORE LOAD SLOTS LIVE PAIRS [time]
 #![tactic(auto)]
 
 mod arguments;
 mod counts;
 mod feed;
+mod kind;
 mod load;
 mod orders;
 mod random;

@@ -2,11 +2,15 @@
 use crate::arguments::{Arguments, read};
 use crate::counts::Counts;
 use crate::feed::Feed;
+use crate::kind::{KINDS, Kind};
 use crate::load::{LOADS, Load};
 use crate::watch::Watch;
+use front_row::front_row::FrontRow;
 use hashed_store::hashed::HashedStore;
 use hashed_store::slot::Slot;
+use messages::code::{Display, Side};
 use records::order::Order;
+use row_store::row::RowStore;
 use std::io;
 use store::store::Store;
 use store::walk::walk;
@@ -15,15 +19,71 @@ use tally::sum::Counting;
 // A million calls.
 const PART: u64 = 500_000;
 
-// Runs the load, or all of them over the same slots.
+// What new rows hold, until the store over them is emptied.
+const BLANK: Order = Order {
+    id: 0,
+    symbol: 0,
+    price: 0,
+    shares: 0,
+    side: Side::Buy,
+    display: Display::Quoted,
+};
+
+// Runs the load, or all of them, on the store, or on each.
 pub fn run(rt: &HostRuntime) -> anyhow::Result<()> {
     let asked = read(rt)?;
-    let mut slots = vec![in rt.alloc(); Slot::Empty; asked.sizes.slots]?;
     let mut live = vec![in rt.alloc(); 0u64; asked.sizes.live]?;
+    for kind in KINDS {
+        if asked.names(kind) {
+            run_kind(rt, kind, live.as_mut_slice(), &asked)?;
+        }
+    }
+    Ok(())
+}
+
+// Lends new memory to a store.
+fn run_kind(
+    rt: &HostRuntime,
+    kind: Kind,
+    live: &mut [u64],
+    asked: &Arguments,
+) -> anyhow::Result<()> {
+    let name = kind.name();
+    println!(rt; "(store {name})")?;
+    let slots = asked.sizes.slots;
+    match kind {
+        Kind::Row => {
+            let mut rows = vec![in rt.alloc(); BLANK; slots]?;
+            run_loads(rt, RowStore::new(rows.as_mut_slice()), live, asked)?;
+        }
+        Kind::Hashed => {
+            let mut slots = vec![in rt.alloc(); Slot::Empty; slots]?;
+            run_loads(rt, HashedStore::new(slots.as_mut_slice()), live, asked)?;
+        }
+        Kind::FrontRow => {
+            let mut rows = vec![in rt.alloc(); BLANK; slots]?;
+            let below = RowStore::new(rows.as_mut_slice());
+            run_loads(rt, FrontRow::new(below), live, asked)?;
+        }
+        Kind::FrontHashed => {
+            let mut slots = vec![in rt.alloc(); Slot::Empty; slots]?;
+            let below = HashedStore::new(slots.as_mut_slice());
+            run_loads(rt, FrontRow::new(below), live, asked)?;
+        }
+    }
+    Ok(())
+}
+
+fn run_loads<S: Store<Order> + Drop>(
+    rt: &HostRuntime,
+    store: S,
+    live: &mut [u64],
+    asked: &Arguments,
+) -> io::Result<()> {
+    let mut store = store;
     for load in LOADS {
         if asked.takes(load) {
-            let mut store = HashedStore::new(slots.as_mut_slice());
-            run_load(rt, load, &mut store, live.as_mut_slice(), &asked)?;
+            run_load(rt, load, &mut store, live, asked)?;
         }
     }
     Ok(())
