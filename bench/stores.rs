@@ -223,13 +223,18 @@ fn run_load(load: Load, room: usize, live: &mut [u64], pairs: u64, asked: bool) 
     }
     let met = walk(&map);
     watch.lap("walk", met);
+    map.retain(|id, _| id % 2 != 0);
+    let swept = met - map.len() as u64;
+    watch.lap("sweep", met);
+    let kept = walk(&map);
+    watch.lap("walk-kept", kept);
     map.clear();
     watch.lap("empty", 1);
     let left = walk(&map);
     watch.lap("walk-emptied", left);
     let Counts { added, refused, removed, missed, sum } = counts;
     println!(
-        "({} (added {added}) (refused {refused}) (removed {removed}) (missed {missed}) (sum {sum}) (met {met}) (left {left}))",
+        "({} (added {added}) (refused {refused}) (removed {removed}) (missed {missed}) (sum {sum}) (met {met}) (swept {swept}) (kept {kept}) (left {left}))",
         load.name()
     );
 }

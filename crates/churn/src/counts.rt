@@ -12,8 +12,10 @@ pub struct Counts {
     pub missed: u64,
     // over all that was removed
     pub sum: u64,
-    // by a walk, before and after the emptying
+    // by a walk, before and after a sweep, and after the emptying
     pub met: u64,
+    pub swept: u64,
+    pub kept: u64,
     pub left: u64,
 }
 
@@ -26,6 +28,8 @@ impl Counts {
             missed: 0,
             sum: 0,
             met: 0,
+            swept: 0,
+            kept: 0,
             left: 0,
         }
     }

@@ -5,6 +5,7 @@
 
 mod arguments;
 mod counts;
+mod even;
 mod feed;
 mod kind;
 mod load;

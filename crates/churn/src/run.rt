@@ -1,6 +1,7 @@
 // From the arguments to what is printed.
 use crate::arguments::{Arguments, read};
 use crate::counts::Counts;
+use crate::even::Even;
 use crate::feed::Feed;
 use crate::kind::{KINDS, Kind};
 use crate::load::{LOADS, Load};
@@ -13,6 +14,7 @@ use records::order::Order;
 use row_store::row::RowStore;
 use std::io;
 use store::store::Store;
+use store::sweep::remove_picked;
 use store::walk::walk;
 use tally::sum::Counting;
 
@@ -108,12 +110,12 @@ fn run_load<S: Store<Order>>(
         counts.churn(store, &mut feed, live, part);
         watch.lap(rt, "churn", part * 2)?;
     }
-    walk_twice(rt, store, &mut counts, &mut watch)?;
+    walk_and_sweep(rt, store, &mut counts, &mut watch)?;
     show(rt, load, &counts)
 }
 
-// Walks over what is held, and again once the store is emptied.
-fn walk_twice<S: Store<Order>>(
+// Walks over what is held, sweeps, walks again, and once more when the store is emptied.
+fn walk_and_sweep<S: Store<Order>>(
     rt: &HostRuntime,
     store: &mut S,
     counts: &mut Counts,
@@ -121,6 +123,10 @@ fn walk_twice<S: Store<Order>>(
 ) -> io::Result<()> {
     counts.met = walk(store, &Counting).number;
     watch.lap(rt, "walk", counts.met)?;
+    counts.swept = remove_picked(store, &Even, &Counting).number;
+    watch.lap(rt, "sweep", counts.met)?;
+    counts.kept = walk(store, &Counting).number;
+    watch.lap(rt, "walk-kept", counts.kept)?;
     store.empty();
     watch.lap(rt, "empty", 1)?;
     counts.left = walk(store, &Counting).number;
@@ -135,8 +141,10 @@ fn show(rt: &HostRuntime, load: Load, counts: &Counts) -> io::Result<()> {
     let missed = counts.missed;
     let sum = counts.sum;
     let met = counts.met;
+    let swept = counts.swept;
+    let kept = counts.kept;
     let left = counts.left;
     println!(rt;
-        "({name} (added {added}) (refused {refused}) (removed {removed}) (missed {missed}) (sum {sum}) (met {met}) (left {left}))"
+        "({name} (added {added}) (refused {refused}) (removed {removed}) (missed {missed}) (sum {sum}) (met {met}) (swept {swept}) (kept {kept}) (left {left}))"
     )
 }
