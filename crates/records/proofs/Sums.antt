@@ -5,7 +5,7 @@ use Prim.Native.Nat.{ℕ, ◌+◌, ◌^◌, ◌≤◌, ◌<◌}
 use native.Mathlib.Bridge.{le_prop}
 use native.Mathlib.Omega.{arith}
 use Rattle.records.specs.declared.value.Value.{Value}
-use Rattle.records.specs.Values.{worth, greatest, stopped, Parts, valued, joined}
+use Rattle.records.specs.Values.{worth, greatest, stopped, Parts, high_of, low_of}
 
 -- what a value is worth gives its two parts
 pub parts-of-worth : (v : Value) (n : ℕ) → worth v ≡ n → Parts v n
@@ -42,6 +42,14 @@ stopped-assoc a b c = omega arith
 
 pub stopped-comm : (a b : ℕ) → stopped (a + b) ≡ stopped (b + a)
 stopped-comm a b = omega arith
+
+-- the value of a number, the greatest value where the number passes it
+unfoldable pub valued : ℕ → Value
+valued n = record { high = high_of (stopped n); low = low_of (stopped n); small = omega arith; fits = omega arith }
+
+-- the sum of two values
+unfoldable pub joined : Value → Value → Value
+joined v w = valued (worth v + worth w)
 
 pub worth-valued : (n : ℕ) → worth (valued n) ≡ stopped n
 unfolding valued
