@@ -1,6 +1,6 @@
 -- Going through a store in its own order: the records still to come from a place on.
 use Rattle.std.specs.Prelude.{◌≡◌, ℕ, List, [], ◌∷◌, Some, None, Option}
-use mathlib.Core.List.{Permᴰ}
+use Rattle.tally.specs.Joining.{IsReordering}
 use Rattle.store.specs.declared.visit.Visit.{Visit}
 
 -- what is to come from the next place on
@@ -15,4 +15,4 @@ Visited ahead p (Some v) = ahead p ≡ v.record ∷ rest ahead v.next
 
 -- the records to come from the start are those held, in some order
 abbrev pub Covers : {X : Type 0} → (ℕ → List X) → List X → Type 0
-Covers ahead rows = Permᴰ (ahead 0) rows
+Covers ahead rows = IsReordering (ahead 0) rows

@@ -1,7 +1,6 @@
 // The one walk: what the records of a store give together, whatever the store, the record and the tally.
 ghost use Rattle.std.specs.Prelude.{◌≡◌, List, map, length};
-ghost use mathlib.Core.List.{Permᴰ};
-ghost use Rattle.tally.specs.Joining.{joined_all, InEveryOrder, JoinedInEveryOrder};
+ghost use Rattle.tally.specs.Joining.{joined_all, InEveryOrder, JoinedInEveryOrder, IsReordering};
 
 use crate::record::Record;
 use crate::store::Store;
@@ -23,7 +22,7 @@ fn walk_on<R: Record, S: Store<R>, M: Measure<R>>(
     place: u64,
     count: u64,
 ) -> M::Out
-    ensures { (rows : List R) → S.Store.ready store.now → Permᴰ (S.Store.ahead store.now place) rows → count ≡ length rows → JoinedInEveryOrder M.Out.Tally.none M.Out.Tally.joining (map (M.Measure.given measure.now) rows) result }
+    ensures { (rows : List R) → S.Store.ready store.now → IsReordering (S.Store.ahead store.now place) rows → count ≡ length rows → JoinedInEveryOrder M.Out.Tally.none M.Out.Tally.joining (map (M.Measure.given measure.now) rows) result }
 {
     let mut met = M::Out::empty();
     let mut place = place;

@@ -1,6 +1,6 @@
 -- Joining a list of tallies: in its order, and in every order and bracketing.
-use Rattle.std.specs.Prelude.{◌≡◌}
-use mathlib.Core.List.{List, [], ◌∷◌, ◌++◌, Permᴰ}
+use Rattle.std.specs.Prelude.{◌≡◌, List, [], ◌∷◌, ◌++◌}
+use mathlib.Core.List.{Permᴰ}
 
 -- a list's items joined one after another; no items give the empty tally
 abbrev pub joined_all : {M : Type 0} → M → (M → M → M) → List M → M
@@ -25,10 +25,14 @@ bracketed none joining nothing = none
 bracketed none joining (item x) = x
 bracketed none joining (both l r) = joining (bracketed none joining l) (bracketed none joining r)
 
+-- the same items, in some order
+abbrev pub IsReordering : {X : Type 0} → List X → List X → Type 0
+IsReordering xs ys = Permᴰ xs ys
+
 -- the items, in every order and every bracketing, come to r
 abbrev pub InEveryOrder : {M : Type 0} → M → (M → M → M) → List M → M → Type 0
 InEveryOrder {M} none joining xs r =
-    (b : Bracketing M) → Permᴰ (items_of b) xs → bracketed none joining b ≡ r
+    (b : Bracketing M) → IsReordering (items_of b) xs → bracketed none joining b ≡ r
 
 -- r is what the items come to, in their order and in every other
 pub record JoinedInEveryOrder {M : Type 0} (none : M) (joining : M → M → M) (xs : List M) (r : M) : Type 0 where
