@@ -18,10 +18,10 @@ COMMENT = re.compile(r"^\s*(//|--)")
 OTHERWISE = {
     "byteIn": "byte_within",
     "comesBack": "is_read_again",
-    "afterSpace": "after_first_space",
     "readAs": "read_of_kind",
     "readLine": "line_read",
     "readKind": "kind_read",
+    "verbOf": "verb_meant",
 }
 
 # In definitions, an import under another name than the kit's.

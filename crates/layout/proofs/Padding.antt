@@ -8,7 +8,7 @@ use Rattle.std.proofs.lemmas.Bool.{cases_Bool, cases_lt, eqb-true, eq-eqb, ne_eq
 use Rattle.layout.specs.declared.class.Class.{Class}
 use Rattle.layout.specs.declared.class.Class.TheVariants.{Graphic, Letter}
 use Rattle.layout.specs.Bytes.{is_of}
-use Rattle.layout.specs.Slots.{text, after_first_space, keeps, Passes, SpellsText}
+use Rattle.layout.specs.Slots.{text, after_space, keeps, Passes, SpellsText}
 
 -- a byte of a class is no space, and below 127
 pub class-bound : (k : Class) (x : ℕ) → is_of k x ≡ true → (x ≡ 32 → ⊥) × (x < 127)
@@ -24,7 +24,7 @@ module _ (k : Class) (least w whole : ℕ) where
     no-space : (j : ℕ) → j < length name → eqb (get_or (name ++ replicate spaces 32) j 0) 32 ≡ false
     no-space j lt = ne_eqb _ 32 (class-bound k _ (in-name j lt)).0
 
-    fresh : (j : ℕ) → j < length name → after_first_space (name ++ replicate spaces 32) j ≡ false
+    fresh : (j : ℕ) → j < length name → after_space (name ++ replicate spaces 32) j ≡ false
     fresh zero lt = refl
     fresh (suc j) lt = no-space j (omega arith)
 
@@ -45,7 +45,7 @@ module _ (k : Class) (least w whole : ℕ) where
       pub spaces : ℕ
       pub split : take i p ≡ name ++ replicate spaces 32
       pub inside : All (λ x. is_of k x ≡ true) name
-      pub ends : (spaces ≡ 0) ⊎ ((least ≤ length name) × (after_first_space p i ≡ true))
+      pub ends : (spaces ≡ 0) ⊎ ((least ≤ length name) × (after_space p i ≡ true))
 
     long : (i : ℕ) (s : Split i) → i ≤ length p → i ≡ length s.name + s.spaces
     long i s le =
@@ -62,9 +62,9 @@ module _ (k : Class) (least w whole : ℕ) where
     }
 
     -- a byte of the class more
-    named : (i : ℕ) → i < length p → is_of k (get_or p i 0) ≡ true → after_first_space p i ≡ false → Split i → Split (i + 1)
+    named : (i : ℕ) → i < length p → is_of k (get_or p i 0) ≡ true → after_space p i ≡ false → Split i → Split (i + 1)
     named i lt here clear s =
-        let none : s.spaces ≡ 0 = ⊎_elim (λ e. e) (λ e. absurd (both_ways (after_first_space p i) clear e.1)) s.ends in
+        let none : s.spaces ≡ 0 = ⊎_elim (λ e. e) (λ e. absurd (both_ways (after_space p i) clear e.1)) s.ends in
         let front : take i p ≡ s.name = s.split ∙ rw none (append-nil s.name) in
         record {
           name = s.name ++ (get_or p i 0 ∷ []);
@@ -78,7 +78,7 @@ module _ (k : Class) (least w whole : ℕ) where
     more i lt s =
         ⊎_elim
         (λ e. spaced i lt (eqb-true _ 32 e) (leb-true least i (rw e at (passes i lt))) s)
-        (λ e. let both = and_parts (is_of k (get_or p i 0)) (not (after_first_space p i)) (rw e at (passes i lt)) in named i lt both.0 (not-true _ both.1) s)
+        (λ e. let both = and_parts (is_of k (get_or p i 0)) (not (after_space p i)) (rw e at (passes i lt)) in named i lt both.0 (not-true _ both.1) s)
         (cases_Bool (eqb (get_or p i 0) 32))
 
     splits : (i : ℕ) → i ≤ length p → Split i

@@ -1,4 +1,4 @@
--- The digits of a number in a base, as many as asked for, the highest first. `number` of the library is the way back.
+-- The digits of a number in a base, as many as asked for, the highest first. `number_from_digits` of the library is the way back.
 use Rattle.std.specs.Prelude.{ℕ, zero, suc, ◌/◌, ◌%◌, ◌^◌, List, [], ◌∷◌, map}
 use Rattle.layout.specs.Bytes.{byte_within}
 

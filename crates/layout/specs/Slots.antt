@@ -62,14 +62,14 @@ Spells (choice letters) p v = SpellsChoice letters p v
 -- Reading, byte by byte and then for the range.
 
 -- a space stands right before place j
-abbrev pub after_first_space : List ℕ → ℕ → Bool
-after_first_space p zero = false
-after_first_space p (suc j) = slice_index p j == 32
+abbrev pub after_space : List ℕ → ℕ → Bool
+after_space p zero = false
+after_space p (suc j) = slice_index p j == 32
 
 -- the byte at place j of p keeps the field's rule, where all bytes before it do
 abbrev pub keeps : Slot → List ℕ → ℕ → Bool
 keeps (number base count low high) p j = nat_lt (worth_of (slice_index p j)) base
-keeps (text class least w whole) p j = cond (slice_index p j == 32) (nat_le least j) (is_of class (slice_index p j) && not (after_first_space p j))
+keeps (text class least w whole) p j = cond (slice_index p j == 32) (nat_le least j) (is_of class (slice_index p j) && not (after_space p j))
 keeps (choice letters) p j = is_one_of letters (slice_index p j)
 
 -- an earlier place, or else n where its test failed
