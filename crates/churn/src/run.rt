@@ -9,7 +9,6 @@ use crate::watch::Watch;
 use front_row::front_row::FrontRow;
 use hashed_store::hashed::HashedStore;
 use hashed_store::slot::Slot;
-use messages::code::{Display, Side};
 use records::order::Order;
 use row_store::row::RowStore;
 use std::io;
@@ -20,16 +19,6 @@ use tally::sum::Counting;
 
 // A million calls.
 const PART: u64 = 500_000;
-
-// What new rows hold, until the store over them is emptied.
-const BLANK: Order = Order {
-    id: 0,
-    symbol: 0,
-    price: 0,
-    shares: 0,
-    side: Side::Buy,
-    display: Display::Quoted,
-};
 
 // Runs the load, or all of them, on the store, or on each.
 pub fn run(rt: &HostRuntime) -> anyhow::Result<()> {
@@ -55,7 +44,7 @@ fn run_kind(
     let slots = asked.sizes.slots;
     match kind {
         Kind::Row => {
-            let mut rows = vec![in rt.alloc(); BLANK; slots]?;
+            let mut rows = vec![in rt.alloc(); Order::BLANK; slots]?;
             run_loads(rt, RowStore::new(rows.as_mut_slice()), live, asked)?;
         }
         Kind::Hashed => {
@@ -63,7 +52,7 @@ fn run_kind(
             run_loads(rt, HashedStore::new(slots.as_mut_slice()), live, asked)?;
         }
         Kind::FrontRow => {
-            let mut rows = vec![in rt.alloc(); BLANK; slots]?;
+            let mut rows = vec![in rt.alloc(); Order::BLANK; slots]?;
             let below = RowStore::new(rows.as_mut_slice());
             run_loads(rt, FrontRow::new(below), live, asked)?;
         }

@@ -20,6 +20,18 @@ pub struct Order {
     pub display: Display,
 }
 
+impl Order {
+    // What new memory for orders holds, until the store over it is emptied.
+    pub const BLANK: Order = Order {
+        id: 0,
+        symbol: 0,
+        price: 0,
+        shares: 0,
+        side: Side::Buy,
+        display: Display::Quoted,
+    };
+}
+
 // Kept by Order ID.
 impl Record for Order {
     ghost key = { λ o. o.id % 2 ^ 64 };

@@ -10,22 +10,11 @@ use calls::reply::Reply;
 use front_row::open::opened;
 use hashed_store::hashed::HashedStore;
 use hashed_store::slot::Slot;
-use messages::code::{Display, Side};
 use records::order::Order;
 use row_store::row::RowStore;
 use std::io;
 use std::io::{BufRead, Write};
 use store::store::Store;
-
-// What new rows hold, until the store over them is emptied.
-const BLANK: Order = Order {
-    id: 0,
-    symbol: 0,
-    side: Side::Buy,
-    price: 0,
-    shares: 0,
-    display: Display::Quoted,
-};
 
 // Opens the store, and answers lines from it until one opens another: that one, or none at the end of the input.
 pub fn open<R: BufRead, W: Write>(
@@ -34,11 +23,12 @@ pub fn open<R: BufRead, W: Write>(
 ) -> io::Result<Option<Opening>> {
     match opening.kind {
         Kind::Row => {
-            let mut rows = vec![in session.heap; BLANK; opening.limit as usize]?;
+            let mut rows = vec![in session.heap; Order::BLANK; opening.limit as usize]?;
             open_over(session, opening.front, RowStore::new(rows.as_mut_slice()))
         }
         Kind::Hashed => {
-            let mut slots = vec![in session.heap; Slot::Held(BLANK); opening.limit as usize]?;
+            let blank = Slot::Held(Order::BLANK);
+            let mut slots = vec![in session.heap; blank; opening.limit as usize]?;
             open_over(
                 session,
                 opening.front,
