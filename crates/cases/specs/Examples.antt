@@ -1,7 +1,7 @@
 -- Worked examples: of reading a line, and of values.
 use Rattle.std.specs.Prelude.{◌≡◌, ℕ, ◌+◌, ◌*◌, Bool, true, false, ◌&&◌, List, [], ◌∷◌, Ok, Err, codes, Result, ◌==◌, slice_index}
 use Rattle.messages.specs.declared.fault.MessageFault.{MessageFault}
-use Rattle.messages.specs.declared.types.MessageType.{MessageType}
+use Rattle.messages.specs.Types.{MessageType}
 use Rattle.messages.specs.Faults.{number_of, carried_of}
 use Rattle.messages.specs.Lines.{line_read}
 use Rattle.records.specs.Values.{stopped, high_of, low_of}

@@ -1,11 +1,13 @@
 // The fields of a line: read, checked and written, each pinned by the definitions of the crate `layout`.
 #![tactic(auto)]
 
+pub mod field;
 pub mod letter;
+pub mod mark;
 pub mod number;
 pub mod numeral;
 pub mod padded;
+pub mod place;
 mod put;
-mod rest;
 mod table;
 pub mod text;

@@ -1,72 +1,56 @@
 // Fields of digits: read, checked and written.
-ghost use Rattle.std.specs.Prelude.{◌≡◌, Ok, Err, MatchResult};
-ghost use Rattle.layout.specs.Slots.{read_slot, check_slot, in_range, scan_slot, spell, over};
+ghost use Rattle.std.specs.Prelude.{◌≡◌, ◌<◌, false, length, MatchOption, slice_index};
+ghost use Rattle.layout.specs.Bytes.{worth_of};
+ghost use Rattle.layout.specs.Slots.{holds};
 ghost use Rattle.fields.specs.Slots.{number_slot};
 
+use crate::field::Field;
 use crate::numeral::Number;
 use crate::put::put_digits;
-use crate::rest::{past, spot_at, spot_of};
 use crate::table::look;
-use layout::fault::FieldFault;
 
-// The number at the front of the line, and what is left of the line.
-pub fn read_number(
-    line: &[u8],
-    letter: u8,
-    offset: u8,
-    field: Number,
-) -> Result<(u64, &[u8]), FieldFault>
-    ensures { MatchResult result (λ p. read_slot (number_slot field) letter offset line.now ≡ Ok (p.0, p.1.now)) (λ e. read_slot (number_slot field) letter offset line.now ≡ Err e) }
-{
-    match scan(line, field) {
-        Err(index) => Err(FieldFault::Byte(spot_at(letter, offset, index))),
-        Ok(value) => {
-            if !in_range(value, field) {
-                return Err(FieldFault::Range(spot_of(letter, offset)));
-            }
-            Ok((value, past(line, field.count)))
+impl Field for Number {
+    type Value = u64;
+
+    ghost slot = { number_slot };
+
+    ghost number = { λ _ v. v };
+
+    fn width(self) -> u8 {
+        self.count
+    }
+
+    fn scan(self, line: &[u8]) -> Result<u64, u8> {
+        let mut value = 0;
+        for place in 0..self.count {
+            let Some(digit) = self.digit(line, place) else {
+                return Err(place);
+            };
+            value = value * self.base + digit;
         }
+        Ok(value)
+    }
+
+    fn allows(self, value: u64) -> bool {
+        self.low <= value && value <= self.high
+    }
+
+    fn gives(self, value: u64) -> bool {
+        self.allows(value)
+    }
+
+    fn put(self, room: &mut [u8], offset: u8, value: u64) {
+        put_digits(room, offset, self.base, self.count, value);
     }
 }
 
-// Whether some line gives the number in that field.
-pub fn check_number(value: u64, letter: u8, offset: u8, field: Number) -> Result<(), FieldFault>
-    ensures { result ≡ check_slot (number_slot field) letter offset value }
-{
-    if in_range(value, field) {
-        Ok(())
-    } else {
-        Err(FieldFault::Range(spot_of(letter, offset)))
+impl Number {
+    // The worth of the byte at that place of the line, if there is one and it is a digit of the base.
+    fn digit(self, line: &[u8], place: u8) -> Option<u64>
+        ensures { MatchOption result (holds (number_slot self) line.now place ≡ false) (λ d. (place < length line.now) × (d < self.base) × (d ≡ worth_of (slice_index line.now place))) }
+    {
+        let byte = *line.get(place as usize)?;
+        let worth = look(byte).worth as u64;
+        if worth < self.base { Some(worth) } else { None }
     }
-}
-
-// Writes the number's digits over the bytes at the offset; where they do not fit, nothing.
-pub fn put_number(room: &mut [u8], offset: u8, field: Number, value: u64)
-    ensures { room.new ≡ over offset (spell (number_slot field) value) room.old }
-{
-    put_digits(room, offset, field.base, field.count, value);
-}
-
-fn in_range(value: u64, field: Number) -> bool
-    ensures { result ≡ in_range (number_slot field) value }
-{
-    field.low <= value && value <= field.high
-}
-
-// The number of the digits at the front, or the place of the first byte that is none.
-fn scan(line: &[u8], field: Number) -> Result<u64, u8>
-    ensures { result ≡ scan_slot (number_slot field) line.now }
-{
-    let mut value = 0;
-    for i in 0..field.count {
-        if line.len() <= i as usize {
-            return Err(i);
-        }
-        let worth = look(line[i as usize]).worth as u64;
-        if worth >= field.base {
-            return Err(i);
-        }
-        value = value * field.base + worth;
-    }
-    Ok(value)
 }

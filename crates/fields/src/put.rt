@@ -1,5 +1,5 @@
-// Writing digits.
-ghost use Rattle.std.specs.Prelude.{◌≡◌, ◌+◌, ◌<◌, ◌≤◌, [], ◌∷◌, ◌++◌, length, take, drop};
+// Writing bytes over those of a buffer.
+ghost use Rattle.std.specs.Prelude.{◌≡◌, ◌<◌, ◌≤◌, [], ◌∷◌, length};
 ghost use Rattle.layout.specs.Bytes.{byte_within};
 ghost use Rattle.layout.specs.Digits.{digit_bytes};
 ghost use Rattle.layout.specs.Slots.{over};
@@ -9,20 +9,23 @@ pub(crate) fn put_digits(room: &mut [u8], offset: u8, base: u64, count: u8, valu
     requires { (2 ≤ base) × (base ≤ 256) }
     ensures { room.new ≡ over offset (digit_bytes base count value) room.old }
 {
-    if offset as usize + count as usize <= room.len() {
-        put_within(room, offset as usize, base, count as usize, value);
+    let start = offset as usize;
+    let end = start + count as usize;
+    if end <= room.len() {
+        fill(&mut room[start..end], base, value);
     }
 }
 
-// From the last digit to the first.
-fn put_within(room: &mut [u8], start: usize, base: u64, count: usize, value: u64)
-    requires { (start + count ≤ length room.old) × ((2 ≤ base) × (base ≤ 256)) }
-    ensures { room.new ≡ take start room.old ++ (digit_bytes base count value ++ drop (start + count) room.old) }
+// Fills the part with the value's last digits, from the last to the first.
+fn fill(part: &mut [u8], base: u64, value: u64)
+    requires { (2 ≤ base) × (base ≤ 256) }
+    ensures { part.new ≡ digit_bytes base (length part.old) value }
 {
     let mut left = value;
-    for i in 0..count {
-        room[start + (count - 1 - i)] = byte_in(base, left % base);
-        left = left / base;
+    // By place: after `iter_mut().rev()` a proof knows no element of the part.
+    for place in (0..part.len()).rev() {
+        part[place] = byte_in(base, left % base);
+        left /= base;
     }
 }
 
@@ -45,6 +48,7 @@ pub(crate) fn put_byte(room: &mut [u8], offset: u8, byte: u8)
     ensures { room.new ≡ over offset (byte ∷ []) room.old }
 {
     let at = offset as usize;
+    // By place: after `get_mut` a proof knows no element of the buffer.
     if at < room.len() {
         room[at] = byte;
     }

@@ -1,84 +1,83 @@
 // Padded fields: read, checked and written.
-ghost use Rattle.std.specs.Prelude.{◌≡◌, ◌+◌, ◌-◌, ◌/◌, ◌^◌, ◌<◌, ◌≤◌, not, ◌&&◌, replicate, if◌then◌else◌, Ok, Err, MatchResult, nat_eq, nat_le};
+ghost use Rattle.std.specs.Prelude.{◌≡◌, ◌+◌, ◌-◌, ◌/◌, ◌^◌, ◌<◌, ◌≤◌, true, false, not, ◌&&◌, ◌==◌, cond, length, replicate, if◌then◌else◌, MatchOption, nat_eq, nat_le, slice_index};
 ghost use Rattle.std.specs.Int.Digits.{number_from_digits_after};
 ghost use Rattle.layout.specs.Bytes.{is_of};
-ghost use Rattle.layout.specs.Slots.{read_slot, check_slot, scan_slot, spell, givable, over};
+ghost use Rattle.layout.specs.Slots.{after_space, keeps, holds};
 ghost use Rattle.fields.specs.Slots.{text_slot};
 
+use crate::field::Field;
 use crate::padded::Text;
 use crate::put::put_digits;
-use crate::rest::{past, spot_at, spot_of};
 use crate::table::look;
 use layout::class::Class;
-use layout::fault::FieldFault;
 
-// The text's number at the front of the line, and what is left of the line.
-pub fn read_text(
-    line: &[u8],
-    letter: u8,
-    offset: u8,
-    field: Text,
-) -> Result<(u64, &[u8]), FieldFault>
-    ensures { MatchResult result (λ p. read_slot (text_slot field) letter offset line.now ≡ Ok (p.0, p.1.now)) (λ e. read_slot (text_slot field) letter offset line.now ≡ Err e) }
-{
-    match scan(line, field) {
-        Err(index) => Err(FieldFault::Byte(spot_at(letter, offset, index))),
-        Ok(value) => Ok((value, past(line, field.width))),
+impl Field for Text {
+    type Value = u64;
+
+    ghost slot = { text_slot };
+
+    ghost number = { λ _ v. v };
+
+    fn width(self) -> u8 {
+        self.width
     }
-}
 
-// Whether some line gives the text of that number in that field.
-pub fn check_text(value: u64, letter: u8, offset: u8, field: Text) -> Result<(), FieldFault>
-    ensures { result ≡ check_slot (text_slot field) letter offset value }
-{
-    if comes_back(value, field) {
-        Ok(())
-    } else {
-        Err(FieldFault::Range(spot_of(letter, offset)))
-    }
-}
-
-// Writes the text's bytes over those at the offset; where they do not fit, nothing.
-pub fn put_text(room: &mut [u8], offset: u8, field: Text, value: u64)
-    ensures { room.new ≡ over offset (spell (text_slot field) value) room.old }
-{
-    put_digits(
-        room,
-        offset,
-        256,
-        field.width,
-        unfilled(value, field.whole - field.width),
-    );
-}
-
-// The number of the text at the front, or the place of the first byte that breaks its rule.
-fn scan(line: &[u8], field: Text) -> Result<u64, u8>
-    ensures { result ≡ scan_slot (text_slot field) line.now }
-{
-    let mut value = 0;
-    let mut spaced = false;
-    for i in 0..field.width {
-        if line.len() <= i as usize {
-            return Err(i);
+    fn scan(self, line: &[u8]) -> Result<u64, u8> {
+        let mut value = 0;
+        let mut spaced = false;
+        for place in 0..self.width {
+            let Some(byte) = self.byte(line, place, spaced) else {
+                return Err(place);
+            };
+            spaced = byte == b' ';
+            value = value * 256 + byte as u64;
         }
-        let byte = line[i as usize];
-        if !fits(field, byte, i, spaced) {
-            return Err(i);
-        }
-        spaced = byte == b' ';
-        value = value * 256 + byte as u64;
+        Ok(filled(value, self.whole - self.width))
     }
-    Ok(filled(value, field.whole - field.width))
+
+    // Any text that was read.
+    fn allows(self, _value: u64) -> bool {
+        true
+    }
+
+    // Whether the number's own bytes are read as that number.
+    fn gives(self, value: u64) -> bool {
+        let mut bytes = [0u8; 8];
+        self.put(&mut bytes, 0, value);
+        match self.scan(&bytes) {
+            Ok(back) => back == value,
+            Err(_) => false,
+        }
+    }
+
+    fn put(self, room: &mut [u8], offset: u8, value: u64) {
+        let kept = unfilled(value, self.whole - self.width);
+        put_digits(room, offset, 256, self.width, kept);
+    }
 }
 
-// Whether the byte may stand at that place, after a space or not.
-fn fits(field: Text, byte: u8, place: u8, spaced: bool) -> bool
-    ensures { result ≡ (if nat_eq byte 32 then nat_le field.least place else is_of field.class byte && not spaced) }
-{
-    if byte == b' ' {
-        field.least <= place
-    } else {
-        in_class(field.class, byte) && !spaced
+impl Text {
+    // The byte at that place of the line, if there is one and it may stand there, after a space or not.
+    fn byte(self, line: &[u8], place: u8, spaced: bool) -> Option<u8>
+        ensures { spaced ≡ after_space line.now place → MatchOption result (holds (text_slot self) line.now place ≡ false) (λ b. (place < length line.now) × (keeps (text_slot self) line.now place ≡ true) × (b ≡ slice_index line.now place)) }
+    {
+        let byte = *line.get(place as usize)?;
+        if self.fits(byte, place, spaced) {
+            Some(byte)
+        } else {
+            None
+        }
+    }
+
+    // Whether the byte may stand at that place, after a space or not.
+    fn fits(self, byte: u8, place: u8, spaced: bool) -> bool
+        ensures { result ≡ (if nat_eq byte 32 then nat_le self.least place else is_of self.class byte && not spaced) }
+    {
+        if byte == b' ' {
+            self.least <= place
+        } else {
+            in_class(self.class, byte) && !spaced
+        }
     }
 }
 
@@ -97,7 +96,7 @@ fn filled(value: u64, count: u8) -> u64
     ensures { result ≡ number_from_digits_after 256 value (replicate count 32) }
 {
     let mut full = value;
-    for i in 0..count {
+    for _ in 0..count {
         full = full * 256 + 32;
     }
     full
@@ -108,20 +107,8 @@ fn unfilled(value: u64, count: u8) -> u64
     ensures { result ≡ value / 256 ^ count }
 {
     let mut left = value;
-    for i in 0..count {
-        left = left / 256;
+    for _ in 0..count {
+        left /= 256;
     }
     left
-}
-
-// Whether the number's own bytes are read as that number.
-fn comes_back(value: u64, field: Text) -> bool
-    ensures { result ≡ givable (text_slot field) value }
-{
-    let mut bytes = [0u8; 8];
-    put_text(&mut bytes, 0, field, value);
-    match scan(&bytes, field) {
-        Ok(back) => back == value,
-        Err(_) => false,
-    }
 }

@@ -1,8 +1,9 @@
 -- What a walk over a field finds, by what its bytes are.
-use Rattle.std.proofs.Common.{◌≡◌, ℕ, ◌<◌, ◌≤◌, true, false, cond, eqb, List, [], ◌∷◌, length, get_or, take, Some, None, Ok, Err, Option, Result, sym, refl, ap, ◌∙◌, ⊎_elim, arith, MatchOption}
+use Rattle.std.proofs.Common.{◌≡◌, ℕ, ◌<◌, ◌≤◌, true, false, cond, eqb, List, [], ◌∷◌, length, get_or, take, Some, None, Ok, Err, Option, Result, sym, refl, ap, ◌∙◌, ⊎_elim, arith, MatchResult}
+use Rattle.std.specs.Result.{result_or}
 use Rattle.layout.specs.Slots.{Slot, width, holds, value_of, first_failing, walked, scan_slot, choice, is_one_of, Passes, Stops}
 use Rattle.std.proofs.lemmas.List.{get_or-take, take-take}
-use Rattle.std.proofs.lemmas.Bool.{cases_Bool, eqb-true, or_left, or_from}
+use Rattle.std.proofs.lemmas.Bool.{eq-eqb, ne_eqb, or_left, or_from}
 use Rattle.layout.proofs.Scanning.{holds-part, passes_none, passes-step, stops-here, stops-short}
 use Rattle.layout.proofs.Search.{Outcome, outcome, is_none, is_some, same-failing}
 
@@ -52,15 +53,15 @@ module _ (letters : List ℕ) (xs : List ℕ) where
   scan-member lt e =
       scan-passes (choice letters) xs (passes-step (choice letters) xs 0 (passes_none (choice letters) xs) lt e) ∙ ap Ok (get_or-take 1 xs 0 0 (omega arith))
 
-  -- of a type whose values stand for the letters
-  pub scan-letter : {X : Type 0} (letter : X → ℕ) → ((x : X) → is_one_of letters (letter x) ≡ true) → 0 < length xs → (o : Option X) → MatchOption o (is_one_of letters (get_or xs 0 0) ≡ false) (λ x. letter x ≡ get_or xs 0 0) → MatchOption o (scan_slot (choice letters) xs ≡ Err 0) (λ x. scan_slot (choice letters) xs ≡ Ok (letter x))
-  scan-letter letter member lt None h = scan-other h
-  scan-letter letter member lt (Some x) h = scan-member lt (rw (← h) (member x)) ∙ ap Ok (sym h)
+  -- of a type whose values stand for the letters: a byte is turned into the value that it stands for, if there is one
+  pub scan-letter : {X E : Type 0} (letter : X → ℕ) → ((x : X) → is_one_of letters (letter x) ≡ true) → (b : ℕ) → 0 < length xs → b ≡ get_or xs 0 0 → (r : Result X E) → MatchResult r (λ x. letter x ≡ b) (λ _. is_one_of letters b ≡ false) → MatchResult (result_or r (Err 0)) (λ x. scan_slot (choice letters) xs ≡ Ok (letter x)) (λ i. scan_slot (choice letters) xs ≡ Err i)
+  scan-letter letter member b lt here (Ok x) h = scan-member lt (rw (← here, ← h) (member x)) ∙ ap Ok (sym (h ∙ here))
+  scan-letter letter member b lt here (Err e) h = scan-other (rw here at h)
 
 -- of one letter alone
-pub scan-mark : (letter : ℕ) (xs : List ℕ) → 0 < length xs → scan_slot (choice (letter ∷ [])) xs ≡ cond (eqb (get_or xs 0 0) letter) (Ok letter) (Err 0)
-scan-mark letter xs lt =
-    ⊎_elim
-    (λ e. scan-member (letter ∷ []) xs lt (or_left _ _ e) ∙ rw e (ap Ok (eqb-true _ _ e)))
-    (λ e. scan-other (letter ∷ []) xs (or_from _ _ e refl) ∙ rw e)
-    (cases_Bool (eqb (get_or xs 0 0) letter))
+module _ (letter : ℕ) (xs : List ℕ) where
+  pub scan-mark : 0 < length xs → get_or xs 0 0 ≡ letter → scan_slot (choice (letter ∷ [])) xs ≡ Ok letter
+  scan-mark lt e = scan-member (letter ∷ []) xs lt (or_left _ _ (eq-eqb _ _ e)) ∙ ap Ok e
+
+  pub scan-unmarked : (get_or xs 0 0 ≡ letter → ⊥) → scan_slot (choice (letter ∷ [])) xs ≡ Err 0
+  scan-unmarked other = scan-other (letter ∷ []) xs (or_from _ _ (ne_eqb _ _ other) refl)

@@ -17,10 +17,16 @@ unfolding digits digit_bytes
 digit_bytes-more b i v = rw add-one
 
 -- one byte more before those that were written
-pub set_before : (xs ys : List ℕ) (k x : ℕ) → k < length xs → set (take (k + 1) xs ++ ys) k x ≡ take k xs ++ (x ∷ ys)
+set_before : (xs ys : List ℕ) (k x : ℕ) → k < length xs → set (take (k + 1) xs ++ ys) k x ≡ take k xs ++ (x ∷ ys)
 set_before xs ys k x lt =
     ap (λ zs. set (zs ++ ys) k x) (take_more xs k 0 lt) ∙ ap (λ zs. set zs k x) (append_assoc (take k xs) (get_or xs k 0 ∷ []) ys)
     ∙ set_at (take k xs) (get_or xs k 0) ys x k (length-take-le k xs (omega arith))
+
+-- written from the last to the first, the digits stand from the place p on; k is the place before it
+pub digits_before : (xs : List ℕ) (b v p k : ℕ) → p ≡ k + 1 → p ≤ length xs → set (take p xs ++ digit_bytes b (length xs - p) v) k (byte_within b (v / b ^ (length xs - p) % b)) ≡ take k xs ++ digit_bytes b (length xs - k) v
+digits_before xs b v p k e le =
+    let next : length xs - k ≡ length xs - p + 1 = omega arith in
+    rw (next, digit_bytes-more b (length xs - p) v) (ap (λ n. set (take n xs ++ digit_bytes b (length xs - p) v) k (byte_within b (v / b ^ (length xs - p) % b))) e ∙ set_before xs (digit_bytes b (length xs - p) v) k _ (omega arith))
 
 pub length-digit_bytes : (b n v : ℕ) → length (digit_bytes b n v) ≡ n
 unfolding digit_bytes

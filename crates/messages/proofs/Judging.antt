@@ -9,7 +9,7 @@ use Rattle.layout.proofs.Laying.{Outcomes, outcomes, reads-laid, reads-fault, fa
 use Rattle.messages.specs.declared.fault.MessageFault.{MessageFault}
 use Rattle.messages.specs.declared.fault.MessageFault.TheVariants.{Cut, Unknown, Length, Field as field}
 use Rattle.messages.specs.declared.message.Message.{Message}
-use Rattle.messages.specs.declared.types.MessageType.{MessageType}
+use Rattle.messages.specs.Types.{MessageType}
 use Rattle.messages.specs.Faults.{number_of, carried_of}
 use Rattle.messages.specs.Layouts.{letter_of, length_of, layout_of}
 use Rattle.messages.specs.Lines.{types, type_among, told, tagged, read_row, read_of_kind, kind_read, line_read}

@@ -6,7 +6,7 @@ use Rattle.std.proofs.lemmas.Bool.{cases_Bool, leb-true, leb-false}
 use Rattle.layout.specs.declared.fault.FieldFault.{FieldFault}
 use Rattle.layout.specs.declared.fault.FieldFault.TheVariants.{Byte, Range}
 use Rattle.layout.specs.declared.fault.Spot.{Spot}
-use Rattle.layout.specs.Fields.{FirstUngiven, put_fields}
+use Rattle.layout.specs.Fields.{Field, FirstUngiven, put_fields}
 use Rattle.layout.specs.Slots.{origin, over}
 use Rattle.messages.specs.declared.fault.MessageFault.{MessageFault}
 use Rattle.messages.specs.declared.fault.MessageFault.TheVariants.{Field as field}
@@ -16,6 +16,7 @@ use Rattle.messages.specs.Layouts.{letter_of, length_of, layout_of}
 use Rattle.messages.specs.Lines.{told, line_read, written, checked, fitted, placed}
 use Rattle.messages.specs.Promises.{Reading, Writing}
 use Rattle.messages.specs.Refusals.{LaidOut, Due, WriteDue, range, buffer}
+use Rattle.messages.specs.Types.{MessageType}
 use Rattle.messages.specs.Values.{type_of, values_of}
 use Rattle.layout.proofs.Putting.{line-laid, length-line, put-line, laid-checks, check-ungiven, Checked, checked as check-answers}
 use Rattle.layout.proofs.Writing.{over-within}
@@ -147,6 +148,13 @@ put-over m place buf part fits e =
     let none : drop (length buf - place) (drop place buf) ≡ [] = drop_all (length buf - place) (drop place buf) (simp length-drop (omega arith)) in
     let now : part ≡ written m ++ drop (place + length (written m)) buf = e ∙ rw (take_rest buf place, whole, long, drop-drop) in
     rw (none, append-nil, now) (sym (over-within place (written m) buf (omega arith)))
+
+-- the same by the row of the message's kind, and by what it says
+pub put-told : (m : Message) (t : MessageType) (vs : List ℕ) → told m ≡ (t, vs) → (fs : List Field) → fs ≡ layout_of t → (n : ℕ) → n ≡ length_of t → (place : ℕ) (buf part : List ℕ) → place + n ≤ length buf → part ≡ put_fields fs vs (take (length buf - place) (drop place buf)) → put_mid place (length buf - place) buf part ≡ over place (written m) buf
+put-told m t vs e fs laid n sized place buf part fits put =
+    let kind : type_of m ≡ t = ap (λ p. p.0) e in
+    let says : values_of m ≡ vs = ap (λ p. p.1) e in
+    put-over m place buf part (rw (kind, ← sized) fits) (rw (kind, says, ← laid) put)
 
 -- What stands at the front of a buffer after writing is a line of the message just where it is laid out so.
 module _ (m : Message) (buf after : List ℕ) where

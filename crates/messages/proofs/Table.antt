@@ -5,8 +5,8 @@ use Rattle.layout.proofs.Laying.{tiled}
 use Rattle.layout.proofs.Putting.{Each}
 use Rattle.messages.specs.declared.message.Message.{Message}
 use Rattle.messages.specs.declared.message.Message.TheVariants as message
-use Rattle.messages.specs.declared.types.MessageType.{MessageType}
-use Rattle.messages.specs.declared.types.MessageType.TheVariants.{SymbolClear, AddShort, AddLong, OrderExecuted, OrderCancel, TradeShort, TradeLong, TradeBreak}
+use Rattle.messages.specs.Types.{MessageType}
+use Rattle.messages.specs.Types.{SymbolClear, AddShort, AddLong, OrderExecuted, OrderCancel, TradeShort, TradeLong, TradeBreak}
 use Rattle.messages.specs.Layouts.{letter_of, length_of, layout_of}
 use Rattle.messages.specs.Lines.{types, type_among}
 use Rattle.messages.specs.Values.{type_of, values_of}

@@ -3,8 +3,8 @@ use Rattle.std.specs.Prelude.{ℕ, List, [], ◌∷◌}
 use Rattle.layout.specs.declared.class.Class.TheVariants.{Graphic, Letter}
 use Rattle.layout.specs.Slots.{Slot, number, text, choice}
 use Rattle.layout.specs.Fields.{Field, at}
-use Rattle.messages.specs.declared.types.MessageType.{MessageType}
-use Rattle.messages.specs.declared.types.MessageType.TheVariants.{SymbolClear, AddShort, AddLong, OrderExecuted, OrderCancel, TradeShort, TradeLong, TradeBreak}
+use Rattle.messages.specs.Types.{MessageType}
+use Rattle.messages.specs.Types.{SymbolClear, AddShort, AddLong, OrderExecuted, OrderCancel, TradeShort, TradeLong, TradeBreak}
 
 -- byte 8 of a line
 abbrev pub letter_of : MessageType → ℕ

@@ -5,4 +5,5 @@ pub mod Letters
 pub mod Lines
 pub mod Promises
 pub mod Refusals
+pub mod Types
 pub mod Values

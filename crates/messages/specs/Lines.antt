@@ -6,8 +6,8 @@ use Rattle.layout.specs.Slots.{over}
 use Rattle.messages.specs.declared.fault.MessageFault.{MessageFault}
 use Rattle.messages.specs.declared.fault.MessageFault.TheVariants.{Cut, Unknown, Length, Field, Buffer}
 use Rattle.messages.specs.declared.message.Message.{Message}
-use Rattle.messages.specs.declared.types.MessageType.{MessageType}
-use Rattle.messages.specs.declared.types.MessageType.TheVariants.{SymbolClear, AddShort, AddLong, OrderExecuted, OrderCancel, TradeShort, TradeLong, TradeBreak}
+use Rattle.messages.specs.Types.{MessageType}
+use Rattle.messages.specs.Types.{SymbolClear, AddShort, AddLong, OrderExecuted, OrderCancel, TradeShort, TradeLong, TradeBreak}
 use Rattle.messages.specs.Layouts.{letter_of, length_of, layout_of}
 use Rattle.messages.specs.Values.{type_of, values_of}
 

@@ -3,7 +3,7 @@ use Rattle.std.specs.Prelude.{◌≡◌, ℕ, ◌+◌, ◌<◌, ◌≤◌, List,
 use Rattle.layout.specs.Fields.{Laid, FirstFault, FirstUngiven}
 use Rattle.messages.specs.declared.fault.MessageFault.{MessageFault}
 use Rattle.messages.specs.declared.message.Message.{Message}
-use Rattle.messages.specs.declared.types.MessageType.{MessageType}
+use Rattle.messages.specs.Types.{MessageType}
 use Rattle.messages.specs.Faults.{number_of, carried_of}
 use Rattle.messages.specs.Layouts.{letter_of, length_of, layout_of}
 use Rattle.messages.specs.Values.{type_of, values_of}

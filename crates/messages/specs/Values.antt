@@ -7,21 +7,26 @@ use Rattle.messages.specs.declared.record.AddOrder.{AddOrder}
 use Rattle.messages.specs.declared.record.AttributedAdd.{AttributedAdd}
 use Rattle.messages.specs.declared.record.Execution.{Execution}
 use Rattle.messages.specs.declared.record.Cancel.{Cancel}
+use Rattle.messages.specs.declared.record.Terms.{Terms}
 use Rattle.messages.specs.declared.record.Trade.{Trade}
 use Rattle.messages.specs.declared.record.Break.{Break}
-use Rattle.messages.specs.declared.types.MessageType.{MessageType}
-use Rattle.messages.specs.declared.types.MessageType.TheVariants as kind
+use Rattle.messages.specs.Types.{MessageType}
+use Rattle.messages.specs.Types as kind
 use Rattle.messages.specs.Codes.{side_letter, trade_side_letter, display_letter, customer_letter}
 use Rattle.messages.specs.Layouts.{letter_of}
 
 abbrev pub clear_values : ClearSymbol → List ℕ
 clear_values r = r.time ∷ letter_of kind.SymbolClear ∷ r.symbol ∷ []
 
+-- the terms, by the letter of their side, and then what else the line says
+abbrev pub terms_then : {S : Type 0} → (S → ℕ) → ℕ → Terms S → List ℕ → List ℕ
+terms_then side letter r vs = r.time ∷ letter ∷ r.order ∷ side r.side ∷ r.shares ∷ r.symbol ∷ r.price ∷ vs
+
 abbrev pub add_values : AddOrder → List ℕ
-add_values r = r.time ∷ letter_of kind.AddShort ∷ r.order ∷ side_letter r.side ∷ r.shares ∷ r.symbol ∷ r.price ∷ display_letter r.display ∷ []
+add_values r = terms_then side_letter (letter_of kind.AddShort) r.terms (display_letter r.display ∷ [])
 
 abbrev pub attributed_values : AttributedAdd → List ℕ
-attributed_values r = r.time ∷ letter_of kind.AddLong ∷ r.order ∷ side_letter r.side ∷ r.shares ∷ r.symbol ∷ r.price ∷ display_letter r.display ∷ r.participant ∷ customer_letter r.customer ∷ []
+attributed_values r = terms_then side_letter (letter_of kind.AddLong) r.add.terms (display_letter r.add.display ∷ r.participant ∷ customer_letter r.customer ∷ [])
 
 abbrev pub executed_values : Execution → List ℕ
 executed_values r = r.time ∷ letter_of kind.OrderExecuted ∷ r.order ∷ r.shares ∷ r.execution ∷ []
@@ -31,7 +36,7 @@ cancel_values r = r.time ∷ letter_of kind.OrderCancel ∷ r.order ∷ r.shares
 
 -- of the short and of the long form
 abbrev pub trade_values : MessageType → Trade → List ℕ
-trade_values t r = r.time ∷ letter_of t ∷ r.order ∷ trade_side_letter r.side ∷ r.shares ∷ r.symbol ∷ r.price ∷ r.execution ∷ []
+trade_values t r = terms_then trade_side_letter (letter_of t) r.terms (r.execution ∷ [])
 
 abbrev pub break_values : Break → List ℕ
 break_values r = r.time ∷ letter_of kind.TradeBreak ∷ r.execution ∷ []

@@ -4,7 +4,7 @@ ghost use Rattle.messages.specs.declared.fault.MessageFault.TheVariants.{Field a
 
 use layout::fault::FieldFault;
 
-#[derive(Clone, Copy)]
+#[derive(Clone, Copy, PartialEq, Eq, Debug)]
 pub enum MessageFault {
     // Fewer than nine bytes.
     Cut,

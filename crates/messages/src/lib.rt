@@ -7,4 +7,3 @@ pub mod kind;
 pub mod message;
 pub mod number;
 pub mod record;
-pub mod types;

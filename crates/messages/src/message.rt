@@ -1,7 +1,7 @@
 // A message of any kind.
 use crate::record::{AddOrder, AttributedAdd, Break, Cancel, ClearSymbol, Execution, Trade};
 
-#[derive(Clone, Copy)]
+#[derive(Clone, Copy, PartialEq, Eq, Debug)]
 pub enum Message {
     SymbolClear(ClearSymbol),
     AddShort(AddOrder),

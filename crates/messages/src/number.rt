@@ -5,16 +5,18 @@ ghost use Rattle.messages.specs.Faults.{number_of};
 use crate::fault::MessageFault;
 use layout::fault::FieldFault;
 
-// The number by which a refusal is known.
-pub fn number_of(fault: &MessageFault) -> u8
-    ensures { result ≡ number_of fault.now }
-{
-    match fault {
-        MessageFault::Cut => 1,
-        MessageFault::Unknown(_) => 2,
-        MessageFault::Length(_) => 3,
-        MessageFault::Field(FieldFault::Byte(_)) => 4,
-        MessageFault::Field(FieldFault::Range(_)) => 5,
-        MessageFault::Buffer => 14,
+impl MessageFault {
+    // The number by which the refusal is known.
+    pub fn number(&self) -> u8
+        ensures { result ≡ number_of self.now }
+    {
+        match self {
+            MessageFault::Cut => 1,
+            MessageFault::Unknown(_) => 2,
+            MessageFault::Length(_) => 3,
+            MessageFault::Field(FieldFault::Byte(_)) => 4,
+            MessageFault::Field(FieldFault::Range(_)) => 5,
+            MessageFault::Buffer => 14,
+        }
     }
 }

@@ -3,42 +3,42 @@
 use crate::code::{Customer, Display, Side, TradeSide};
 
 // All orders of the symbol leave the book.
-#[derive(Clone, Copy)]
+#[derive(Clone, Copy, PartialEq, Eq, Debug)]
 pub struct ClearSymbol {
     // Milliseconds past midnight, as in every record.
     pub time: u64,
     pub symbol: u64,
 }
 
-// An order comes to rest on the book.
-#[derive(Clone, Copy)]
-pub struct AddOrder {
+// The terms of an order, which an add and a trade give alike.
+#[derive(Clone, Copy, PartialEq, Eq, Debug)]
+pub struct Terms<S> {
     pub time: u64,
     pub order: u64,
-    pub side: Side,
+    pub side: S,
     pub shares: u64,
     pub symbol: u64,
-    // Ten-thousandths of a dollar, as in every record.
+    // Ten-thousandths of a dollar.
     pub price: u64,
+}
+
+// An order comes to rest on the book.
+#[derive(Clone, Copy, PartialEq, Eq, Debug)]
+pub struct AddOrder {
+    pub terms: Terms<Side>,
     pub display: Display,
 }
 
 // The same, with whom the order is attributed to.
-#[derive(Clone, Copy)]
+#[derive(Clone, Copy, PartialEq, Eq, Debug)]
 pub struct AttributedAdd {
-    pub time: u64,
-    pub order: u64,
-    pub side: Side,
-    pub shares: u64,
-    pub symbol: u64,
-    pub price: u64,
-    pub display: Display,
+    pub add: AddOrder,
     pub participant: u64,
     pub customer: Customer,
 }
 
 // Shares of a resting order were executed.
-#[derive(Clone, Copy)]
+#[derive(Clone, Copy, PartialEq, Eq, Debug)]
 pub struct Execution {
     pub time: u64,
     pub order: u64,
@@ -47,7 +47,7 @@ pub struct Execution {
 }
 
 // Shares of a resting order were cancelled.
-#[derive(Clone, Copy)]
+#[derive(Clone, Copy, PartialEq, Eq, Debug)]
 pub struct Cancel {
     pub time: u64,
     pub order: u64,
@@ -55,19 +55,14 @@ pub struct Cancel {
 }
 
 // An execution of an order that never was on the book.
-#[derive(Clone, Copy)]
+#[derive(Clone, Copy, PartialEq, Eq, Debug)]
 pub struct Trade {
-    pub time: u64,
-    pub order: u64,
-    pub side: TradeSide,
-    pub shares: u64,
-    pub symbol: u64,
-    pub price: u64,
+    pub terms: Terms<TradeSide>,
     pub execution: u64,
 }
 
 // An execution or a trade was broken.
-#[derive(Clone, Copy)]
+#[derive(Clone, Copy, PartialEq, Eq, Debug)]
 pub struct Break {
     pub time: u64,
     pub execution: u64,

@@ -1,12 +1,15 @@
 // Order Cancel: X.
-ghost use Rattle.messages.specs.declared.types.MessageType.TheVariants.{OrderCancel as kind};
+ghost use Rattle.std.specs.Prelude.{refl};
+ghost use Rattle.messages.specs.Layouts.{layout_of};
+ghost use Rattle.messages.specs.Types.{OrderCancel as kind};
 ghost use Rattle.messages.specs.Values.{cancel_values};
 
-use fields::letter::{put_mark, read_mark};
-use fields::number::{check_number, put_number, read_number};
+use fields::field::Field;
+use fields::mark::Mark;
 use fields::numeral::{ID, SHARES, TIME};
 use layout::fault::FieldFault;
 use messages::kind::Kind;
+use messages::message::Message;
 use messages::record::Cancel;
 
 pub struct OrderCancel;
@@ -14,27 +17,38 @@ pub struct OrderCancel;
 impl Kind for OrderCancel {
     const LETTER: u8 = b'X';
 
+    ghost LETTER = { 88 };
+
     const LENGTH: usize = 27;
+
+    ghost LENGTH = { 27 };
 
     type Record = Cancel;
 
     ghost row = { kind };
 
+    ghost fields = { layout_of kind };
+
     ghost values = { cancel_values };
 
-    fn mark() -> u8 {
-        Self::LETTER
-    }
+    ghost lettered = { refl };
 
-    fn size() -> usize {
-        Self::LENGTH
+    ghost sized = { refl };
+
+    ghost laid = { refl };
+
+    fn message(cancel: Cancel) -> Message {
+        Message::OrderCancel(cancel)
     }
 
     fn read(line: &[u8]) -> Result<Cancel, FieldFault> {
-        let (time, rest) = read_number(line, Self::LETTER, 0, TIME)?;
-        let (_, rest) = read_mark(rest, Self::LETTER, 8)?;
-        let (order, rest) = read_number(rest, Self::LETTER, 9, ID)?;
-        let (shares, _) = read_number(rest, Self::LETTER, 21, SHARES)?;
+        let (time, rest) = TIME.read(line, Self::at(0))?;
+        let (_, rest) = Mark {
+            letter: Self::LETTER,
+        }
+        .read(rest, Self::at(8))?;
+        let (order, rest) = ID.read(rest, Self::at(9))?;
+        let (shares, _) = SHARES.read(rest, Self::at(21))?;
         Ok(Cancel {
             time,
             order,
@@ -43,15 +57,18 @@ impl Kind for OrderCancel {
     }
 
     fn check(cancel: &Cancel) -> Result<(), FieldFault> {
-        check_number(cancel.time, Self::LETTER, 0, TIME)?;
-        check_number(cancel.order, Self::LETTER, 9, ID)?;
-        check_number(cancel.shares, Self::LETTER, 21, SHARES)
+        TIME.check(cancel.time, Self::at(0))?;
+        ID.check(cancel.order, Self::at(9))?;
+        SHARES.check(cancel.shares, Self::at(21))
     }
 
     fn put(cancel: &Cancel, room: &mut [u8]) {
-        put_number(room, 0, TIME, cancel.time);
-        put_mark(room, 8, Self::LETTER);
-        put_number(room, 9, ID, cancel.order);
-        put_number(room, 21, SHARES, cancel.shares);
+        TIME.put(room, 0, cancel.time);
+        Mark {
+            letter: Self::LETTER,
+        }
+        .put(room, 8, ());
+        ID.put(room, 9, cancel.order);
+        SHARES.put(room, 21, cancel.shares);
     }
 }

@@ -1,14 +1,16 @@
 // Symbol Clear: s.
-ghost use Rattle.messages.specs.declared.types.MessageType.TheVariants.{SymbolClear as kind};
+ghost use Rattle.std.specs.Prelude.{refl};
+ghost use Rattle.messages.specs.Layouts.{layout_of};
+ghost use Rattle.messages.specs.Types.{SymbolClear as kind};
 ghost use Rattle.messages.specs.Values.{clear_values};
 
-use fields::letter::{put_mark, read_mark};
-use fields::number::{check_number, put_number, read_number};
+use fields::field::Field;
+use fields::mark::Mark;
 use fields::numeral::TIME;
 use fields::padded::LONG_SYMBOL;
-use fields::text::{check_text, put_text, read_text};
 use layout::fault::FieldFault;
 use messages::kind::Kind;
+use messages::message::Message;
 use messages::record::ClearSymbol;
 
 pub struct SymbolClear;
@@ -16,37 +18,51 @@ pub struct SymbolClear;
 impl Kind for SymbolClear {
     const LETTER: u8 = b's';
 
+    ghost LETTER = { 115 };
+
     const LENGTH: usize = 17;
+
+    ghost LENGTH = { 17 };
 
     type Record = ClearSymbol;
 
     ghost row = { kind };
 
+    ghost fields = { layout_of kind };
+
     ghost values = { clear_values };
 
-    fn mark() -> u8 {
-        Self::LETTER
-    }
+    ghost lettered = { refl };
 
-    fn size() -> usize {
-        Self::LENGTH
+    ghost sized = { refl };
+
+    ghost laid = { refl };
+
+    fn message(clear: ClearSymbol) -> Message {
+        Message::SymbolClear(clear)
     }
 
     fn read(line: &[u8]) -> Result<ClearSymbol, FieldFault> {
-        let (time, rest) = read_number(line, Self::LETTER, 0, TIME)?;
-        let (_, rest) = read_mark(rest, Self::LETTER, 8)?;
-        let (symbol, _) = read_text(rest, Self::LETTER, 9, LONG_SYMBOL)?;
+        let (time, rest) = TIME.read(line, Self::at(0))?;
+        let (_, rest) = Mark {
+            letter: Self::LETTER,
+        }
+        .read(rest, Self::at(8))?;
+        let (symbol, _) = LONG_SYMBOL.read(rest, Self::at(9))?;
         Ok(ClearSymbol { time, symbol })
     }
 
     fn check(clear: &ClearSymbol) -> Result<(), FieldFault> {
-        check_number(clear.time, Self::LETTER, 0, TIME)?;
-        check_text(clear.symbol, Self::LETTER, 9, LONG_SYMBOL)
+        TIME.check(clear.time, Self::at(0))?;
+        LONG_SYMBOL.check(clear.symbol, Self::at(9))
     }
 
     fn put(clear: &ClearSymbol, room: &mut [u8]) {
-        put_number(room, 0, TIME, clear.time);
-        put_mark(room, 8, Self::LETTER);
-        put_text(room, 9, LONG_SYMBOL, clear.symbol);
+        TIME.put(room, 0, clear.time);
+        Mark {
+            letter: Self::LETTER,
+        }
+        .put(room, 8, ());
+        LONG_SYMBOL.put(room, 9, clear.symbol);
     }
 }

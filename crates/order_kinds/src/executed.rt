@@ -1,12 +1,15 @@
 // Order Executed: E.
-ghost use Rattle.messages.specs.declared.types.MessageType.TheVariants.{OrderExecuted as kind};
+ghost use Rattle.std.specs.Prelude.{refl};
+ghost use Rattle.messages.specs.Layouts.{layout_of};
+ghost use Rattle.messages.specs.Types.{OrderExecuted as kind};
 ghost use Rattle.messages.specs.Values.{executed_values};
 
-use fields::letter::{put_mark, read_mark};
-use fields::number::{check_number, put_number, read_number};
+use fields::field::Field;
+use fields::mark::Mark;
 use fields::numeral::{ID, SHARES, TIME};
 use layout::fault::FieldFault;
 use messages::kind::Kind;
+use messages::message::Message;
 use messages::record::Execution;
 
 pub struct OrderExecuted;
@@ -14,28 +17,39 @@ pub struct OrderExecuted;
 impl Kind for OrderExecuted {
     const LETTER: u8 = b'E';
 
+    ghost LETTER = { 69 };
+
     const LENGTH: usize = 39;
+
+    ghost LENGTH = { 39 };
 
     type Record = Execution;
 
     ghost row = { kind };
 
+    ghost fields = { layout_of kind };
+
     ghost values = { executed_values };
 
-    fn mark() -> u8 {
-        Self::LETTER
-    }
+    ghost lettered = { refl };
 
-    fn size() -> usize {
-        Self::LENGTH
+    ghost sized = { refl };
+
+    ghost laid = { refl };
+
+    fn message(executed: Execution) -> Message {
+        Message::OrderExecuted(executed)
     }
 
     fn read(line: &[u8]) -> Result<Execution, FieldFault> {
-        let (time, rest) = read_number(line, Self::LETTER, 0, TIME)?;
-        let (_, rest) = read_mark(rest, Self::LETTER, 8)?;
-        let (order, rest) = read_number(rest, Self::LETTER, 9, ID)?;
-        let (shares, rest) = read_number(rest, Self::LETTER, 21, SHARES)?;
-        let (execution, _) = read_number(rest, Self::LETTER, 27, ID)?;
+        let (time, rest) = TIME.read(line, Self::at(0))?;
+        let (_, rest) = Mark {
+            letter: Self::LETTER,
+        }
+        .read(rest, Self::at(8))?;
+        let (order, rest) = ID.read(rest, Self::at(9))?;
+        let (shares, rest) = SHARES.read(rest, Self::at(21))?;
+        let (execution, _) = ID.read(rest, Self::at(27))?;
         Ok(Execution {
             time,
             order,
@@ -45,17 +59,20 @@ impl Kind for OrderExecuted {
     }
 
     fn check(executed: &Execution) -> Result<(), FieldFault> {
-        check_number(executed.time, Self::LETTER, 0, TIME)?;
-        check_number(executed.order, Self::LETTER, 9, ID)?;
-        check_number(executed.shares, Self::LETTER, 21, SHARES)?;
-        check_number(executed.execution, Self::LETTER, 27, ID)
+        TIME.check(executed.time, Self::at(0))?;
+        ID.check(executed.order, Self::at(9))?;
+        SHARES.check(executed.shares, Self::at(21))?;
+        ID.check(executed.execution, Self::at(27))
     }
 
     fn put(executed: &Execution, room: &mut [u8]) {
-        put_number(room, 0, TIME, executed.time);
-        put_mark(room, 8, Self::LETTER);
-        put_number(room, 9, ID, executed.order);
-        put_number(room, 21, SHARES, executed.shares);
-        put_number(room, 27, ID, executed.execution);
+        TIME.put(room, 0, executed.time);
+        Mark {
+            letter: Self::LETTER,
+        }
+        .put(room, 8, ());
+        ID.put(room, 9, executed.order);
+        SHARES.put(room, 21, executed.shares);
+        ID.put(room, 27, executed.execution);
     }
 }

@@ -2,7 +2,6 @@
 #![tactic(auto)]
 
 pub mod add;
-pub mod add_long;
 pub mod cancel;
 pub mod clear;
 pub mod executed;

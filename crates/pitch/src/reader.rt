@@ -1,11 +1,19 @@
 // Reading a line.
-ghost use Rattle.std.specs.Prelude.{◌≡◌, Ok, Err, MatchResult};
-ghost use Rattle.messages.specs.Lines.{line_read, told};
+ghost use Rattle.std.specs.Prelude.{◌≡◌, Some, Ok, Err, MatchResult, slice_index};
+ghost use Rattle.messages.specs.Layouts.{letter_of};
+ghost use Rattle.messages.specs.Lines.{line_read, kind_read, read_row, told};
 ghost use Rattle.messages.specs.Promises.{Reading, SymbolsAgree};
 
-use crate::dispatch::{length_of, read_as, type_of};
+use layout::fault::FieldFault;
 use messages::fault::MessageFault;
+use messages::kind::Kind;
 use messages::message::Message;
+use order_kinds::add::{AddLong, AddShort};
+use order_kinds::cancel::OrderCancel;
+use order_kinds::clear::SymbolClear;
+use order_kinds::executed::OrderExecuted;
+use trade_kinds::trade::{TradeLong, TradeShort};
+use trade_kinds::trade_break::TradeBreak;
 
 // The message that the line is, or why it is none.
 pub fn read(line: &[u8]) -> Result<Message, MessageFault>
@@ -23,12 +31,32 @@ fn read_line(line: &[u8]) -> Result<Message, MessageFault>
     if line.len() < 9 {
         return Err(MessageFault::Cut);
     }
-    let letter = line[8];
-    let Some(kind) = type_of(letter) else {
-        return Err(MessageFault::Unknown(letter));
-    };
-    if line.len() != length_of(kind) {
-        return Err(MessageFault::Length(letter));
+    match line[8] {
+        b's' => read_kind::<SymbolClear>(line),
+        b'A' => read_kind::<AddShort>(line),
+        b'd' => read_kind::<AddLong>(line),
+        b'E' => read_kind::<OrderExecuted>(line),
+        b'X' => read_kind::<OrderCancel>(line),
+        b'P' => read_kind::<TradeShort>(line),
+        b'r' => read_kind::<TradeLong>(line),
+        b'B' => read_kind::<TradeBreak>(line),
+        letter => Err(MessageFault::Unknown(letter)),
     }
-    read_as(kind, line)
+}
+
+// The message of the kind in a line that has the kind's letter.
+fn read_kind<K: Kind>(line: &[u8]) -> Result<Message, MessageFault>
+    ensures { slice_index line.now 8 ≡ letter_of K.Kind.row → MatchResult result (λ m. kind_read line.now (Some K.Kind.row) ≡ Ok (told m)) (λ e. kind_read line.now (Some K.Kind.row) ≡ Err e) }
+{
+    if line.len() != K::LENGTH {
+        return Err(MessageFault::Length(K::LETTER));
+    }
+    Ok(K::message(read_record::<K>(line)?))
+}
+
+// What the line says, by the kind's row of the layout table.
+fn read_record<K: Kind>(line: &[u8]) -> Result<K::Record, FieldFault>
+    ensures { MatchResult result (λ c. read_row K.Kind.row line.now ≡ Ok (K.values c)) (λ e. read_row K.Kind.row line.now ≡ Err e) }
+{
+    K::read(line)
 }

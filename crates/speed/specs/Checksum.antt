@@ -1,7 +1,7 @@
 -- The checksum of a buffer: each line that ends in 0x0A, read, and every number of what it says mixed in.
 use Rattle.std.specs.Prelude.{ℕ, ◌+◌, ◌*◌, ◌%◌, ◌^◌, cond, List, [], ◌∷◌, ◌++◌, Ok, Err, Result, ◌==◌}
 use Rattle.messages.specs.declared.fault.MessageFault.{MessageFault}
-use Rattle.messages.specs.declared.types.MessageType.{MessageType}
+use Rattle.messages.specs.Types.{MessageType}
 use Rattle.messages.specs.Faults.{number_of, carried_of}
 use Rattle.messages.specs.Lines.{line_read}
 

@@ -3,4 +3,3 @@
 
 pub mod trade;
 pub mod trade_break;
-pub mod trade_long;

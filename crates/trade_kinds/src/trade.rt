@@ -1,75 +1,79 @@
-// Trade, the short form: P.
-ghost use Rattle.messages.specs.declared.types.MessageType.TheVariants.{TradeShort as kind};
-ghost use Rattle.messages.specs.Values.{trade_values};
+// Trade, in its short and in its long form.
+ghost use Rattle.std.specs.Prelude.{refl};
+ghost use Rattle.messages.specs.Layouts.{short_symbol, long_symbol};
+ghost use Rattle.messages.specs.Types as kind;
 
-use fields::letter::{put_letter, put_mark, read_letter, read_mark};
-use fields::number::{check_number, put_number, read_number};
-use fields::numeral::{ID, PRICE, SHARES, TIME};
-use fields::padded::SHORT_SYMBOL;
-use fields::text::{check_text, put_text, read_text};
-use layout::fault::FieldFault;
-use messages::code::TradeSide;
-use messages::kind::Kind;
+use fields::padded::{LONG_SYMBOL, SHORT_SYMBOL, Text};
+use messages::message::Message;
 use messages::record::Trade;
+use terms::form::{Form, OfForm};
 
-pub struct TradeShort;
+// The short form: P.
+pub struct ShortTrade;
 
-impl Kind for TradeShort {
+pub type TradeShort = OfForm<ShortTrade>;
+
+impl Form for ShortTrade {
     const LETTER: u8 = b'P';
+
+    ghost LETTER = { 80 };
 
     const LENGTH: usize = 56;
 
+    ghost LENGTH = { 56 };
+
     type Record = Trade;
 
-    ghost row = { kind };
+    ghost row = { kind.TradeShort };
 
-    ghost values = { trade_values kind };
+    ghost symbol = { short_symbol };
 
-    fn mark() -> u8 {
-        Self::LETTER
+    ghost lettered = { refl };
+
+    ghost sized = { refl };
+
+    ghost laid = { refl };
+
+    fn symbol() -> Text {
+        SHORT_SYMBOL
     }
 
-    fn size() -> usize {
-        Self::LENGTH
+    fn message(said: Trade) -> Message {
+        Message::TradeShort(said)
+    }
+}
+
+// The long form: r.
+pub struct LongTrade;
+
+pub type TradeLong = OfForm<LongTrade>;
+
+impl Form for LongTrade {
+    const LETTER: u8 = b'r';
+
+    ghost LETTER = { 114 };
+
+    const LENGTH: usize = 58;
+
+    ghost LENGTH = { 58 };
+
+    type Record = Trade;
+
+    ghost row = { kind.TradeLong };
+
+    ghost symbol = { long_symbol };
+
+    ghost lettered = { refl };
+
+    ghost sized = { refl };
+
+    ghost laid = { refl };
+
+    fn symbol() -> Text {
+        LONG_SYMBOL
     }
 
-    fn read(line: &[u8]) -> Result<Trade, FieldFault> {
-        let (time, rest) = read_number(line, Self::LETTER, 0, TIME)?;
-        let (_, rest) = read_mark(rest, Self::LETTER, 8)?;
-        let (order, rest) = read_number(rest, Self::LETTER, 9, ID)?;
-        let (side, rest) = read_letter::<TradeSide>(rest, Self::LETTER, 21)?;
-        let (shares, rest) = read_number(rest, Self::LETTER, 22, SHARES)?;
-        let (symbol, rest) = read_text(rest, Self::LETTER, 28, SHORT_SYMBOL)?;
-        let (price, rest) = read_number(rest, Self::LETTER, 34, PRICE)?;
-        let (execution, _) = read_number(rest, Self::LETTER, 44, ID)?;
-        Ok(Trade {
-            time,
-            order,
-            side,
-            shares,
-            symbol,
-            price,
-            execution,
-        })
-    }
-
-    fn check(trade: &Trade) -> Result<(), FieldFault> {
-        check_number(trade.time, Self::LETTER, 0, TIME)?;
-        check_number(trade.order, Self::LETTER, 9, ID)?;
-        check_number(trade.shares, Self::LETTER, 22, SHARES)?;
-        check_text(trade.symbol, Self::LETTER, 28, SHORT_SYMBOL)?;
-        check_number(trade.price, Self::LETTER, 34, PRICE)?;
-        check_number(trade.execution, Self::LETTER, 44, ID)
-    }
-
-    fn put(trade: &Trade, room: &mut [u8]) {
-        put_number(room, 0, TIME, trade.time);
-        put_mark(room, 8, Self::LETTER);
-        put_number(room, 9, ID, trade.order);
-        put_letter(room, 21, &trade.side);
-        put_number(room, 22, SHARES, trade.shares);
-        put_text(room, 28, SHORT_SYMBOL, trade.symbol);
-        put_number(room, 34, PRICE, trade.price);
-        put_number(room, 44, ID, trade.execution);
+    fn message(said: Trade) -> Message {
+        Message::TradeLong(said)
     }
 }

@@ -1,12 +1,15 @@
 // Trade Break: B.
-ghost use Rattle.messages.specs.declared.types.MessageType.TheVariants.{TradeBreak as kind};
+ghost use Rattle.std.specs.Prelude.{refl};
+ghost use Rattle.messages.specs.Layouts.{layout_of};
+ghost use Rattle.messages.specs.Types.{TradeBreak as kind};
 ghost use Rattle.messages.specs.Values.{break_values};
 
-use fields::letter::{put_mark, read_mark};
-use fields::number::{check_number, put_number, read_number};
+use fields::field::Field;
+use fields::mark::Mark;
 use fields::numeral::{ID, TIME};
 use layout::fault::FieldFault;
 use messages::kind::Kind;
+use messages::message::Message;
 use messages::record::Break;
 
 pub struct TradeBreak;
@@ -14,37 +17,51 @@ pub struct TradeBreak;
 impl Kind for TradeBreak {
     const LETTER: u8 = b'B';
 
+    ghost LETTER = { 66 };
+
     const LENGTH: usize = 21;
+
+    ghost LENGTH = { 21 };
 
     type Record = Break;
 
     ghost row = { kind };
 
+    ghost fields = { layout_of kind };
+
     ghost values = { break_values };
 
-    fn mark() -> u8 {
-        Self::LETTER
-    }
+    ghost lettered = { refl };
 
-    fn size() -> usize {
-        Self::LENGTH
+    ghost sized = { refl };
+
+    ghost laid = { refl };
+
+    fn message(broken: Break) -> Message {
+        Message::TradeBreak(broken)
     }
 
     fn read(line: &[u8]) -> Result<Break, FieldFault> {
-        let (time, rest) = read_number(line, Self::LETTER, 0, TIME)?;
-        let (_, rest) = read_mark(rest, Self::LETTER, 8)?;
-        let (execution, _) = read_number(rest, Self::LETTER, 9, ID)?;
+        let (time, rest) = TIME.read(line, Self::at(0))?;
+        let (_, rest) = Mark {
+            letter: Self::LETTER,
+        }
+        .read(rest, Self::at(8))?;
+        let (execution, _) = ID.read(rest, Self::at(9))?;
         Ok(Break { time, execution })
     }
 
     fn check(broken: &Break) -> Result<(), FieldFault> {
-        check_number(broken.time, Self::LETTER, 0, TIME)?;
-        check_number(broken.execution, Self::LETTER, 9, ID)
+        TIME.check(broken.time, Self::at(0))?;
+        ID.check(broken.execution, Self::at(9))
     }
 
     fn put(broken: &Break, room: &mut [u8]) {
-        put_number(room, 0, TIME, broken.time);
-        put_mark(room, 8, Self::LETTER);
-        put_number(room, 9, ID, broken.execution);
+        TIME.put(room, 0, broken.time);
+        Mark {
+            letter: Self::LETTER,
+        }
+        .put(room, 8, ());
+        ID.put(room, 9, broken.execution);
     }
 }
