@@ -1,15 +1,16 @@
 // Sums over the fields of messages and of refusals.
-ghost use Rattle.std.specs.Prelude.{◌≡◌, ◌∷◌};
+ghost use Rattle.std.specs.Prelude.{◌≡◌, [], ◌∷◌};
+ghost use Rattle.messages.specs.Codes.{side_letter, display_letter};
 ghost use Rattle.messages.specs.Faults.{number_of, carried_of};
 ghost use Rattle.messages.specs.Lines.{line_read};
-ghost use Rattle.messages.specs.Values.{values_of};
+ghost use Rattle.messages.specs.Values.{terms_then, values_of};
 ghost use Rattle.speed.specs.Checksum.{mixed, mixed_all, after_line};
 
 use fields::letter::Lettered;
 use layout::fault::FieldFault;
 use messages::fault::MessageFault;
 use messages::message::Message;
-use messages::number::number_of;
+use messages::record::{AddOrder, Terms};
 use pitch::reader::read;
 
 // The sum with what the line says, or why it is no message.
@@ -27,56 +28,69 @@ fn add_message(sum: u64, message: &Message) -> u64
     ensures { result ≡ mixed_all sum (values_of message.now) }
 {
     match message {
-        Message::SymbolClear(m) => mix(mix(mix(sum, m.time), b's' as u64), m.symbol),
-        Message::AddShort(m) => {
-            let sum = mix(mix(mix(sum, m.time), b'A' as u64), m.order);
-            let sum = mix(mix(sum, m.side.byte() as u64), m.shares);
-            mix(mix(mix(sum, m.symbol), m.price), m.display.byte() as u64)
-        }
+        Message::SymbolClear(m) => mix_all(sum, &[m.time, b's' as u64, m.symbol]),
+        Message::AddShort(m) => add_order(sum, b'A', m),
         Message::AddLong(m) => {
-            let sum = mix(mix(mix(sum, m.time), b'd' as u64), m.order);
-            let sum = mix(mix(sum, m.side.byte() as u64), m.shares);
-            let sum = mix(mix(mix(sum, m.symbol), m.price), m.display.byte() as u64);
-            mix(mix(sum, m.participant), m.customer.byte() as u64)
+            let sum = add_order(sum, b'd', &m.add);
+            mix_all(sum, &[m.participant, letter_of(m.customer)])
         }
-        Message::OrderExecuted(m) => {
-            let sum = mix(mix(mix(sum, m.time), b'E' as u64), m.order);
-            mix(mix(sum, m.shares), m.execution)
-        }
-        Message::OrderCancel(m) => mix(mix(mix(mix(sum, m.time), b'X' as u64), m.order), m.shares),
-        Message::TradeShort(m) => {
-            let sum = mix(mix(mix(sum, m.time), b'P' as u64), m.order);
-            let sum = mix(mix(sum, m.side.byte() as u64), m.shares);
-            mix(mix(mix(sum, m.symbol), m.price), m.execution)
-        }
-        Message::TradeLong(m) => {
-            let sum = mix(mix(mix(sum, m.time), b'r' as u64), m.order);
-            let sum = mix(mix(sum, m.side.byte() as u64), m.shares);
-            mix(mix(mix(sum, m.symbol), m.price), m.execution)
-        }
-        Message::TradeBreak(m) => mix(mix(mix(sum, m.time), b'B' as u64), m.execution),
+        Message::OrderExecuted(m) => mix_all(
+            sum,
+            &[m.time, b'E' as u64, m.order, m.shares, m.execution],
+        ),
+        Message::OrderCancel(m) => mix_all(sum, &[m.time, b'X' as u64, m.order, m.shares]),
+        Message::TradeShort(m) => mix(add_terms(sum, b'P', &m.terms), m.execution),
+        Message::TradeLong(m) => mix(add_terms(sum, b'r', &m.terms), m.execution),
+        Message::TradeBreak(m) => mix_all(sum, &[m.time, b'B' as u64, m.execution]),
     }
+}
+
+// The sum with the fields that both forms of an add have.
+fn add_order(sum: u64, letter: u8, add: &AddOrder) -> u64
+    ensures { result ≡ mixed_all sum (terms_then side_letter letter add.now.terms (display_letter add.now.display ∷ [])) }
+{
+    mix(add_terms(sum, letter, &add.terms), letter_of(add.display))
+}
+
+// The sum with the letter of the kind and the terms of the order.
+fn add_terms<S: Lettered>(sum: u64, letter: u8, terms: &Terms<S>) -> u64
+    ensures { result ≡ mixed_all sum (terms_then S.written letter terms.now []) }
+{
+    let sum = mix_all(sum, &[terms.time, letter as u64, terms.order]);
+    let sum = mix(sum, letter_of(terms.side));
+    mix_all(sum, &[terms.shares, terms.symbol, terms.price])
+}
+
+fn letter_of<L: Lettered>(value: L) -> u64
+    ensures { result ≡ L.written value }
+{
+    let letter: u8 = value.into();
+    letter as u64
 }
 
 // The sum with the refusal's number and what it carries.
 fn add_fault(sum: u64, fault: &MessageFault) -> u64
     ensures { result ≡ mixed_all sum (number_of fault.now ∷ carried_of fault.now) }
 {
-    let sum = mix(sum, number_of(fault) as u64);
+    let sum = mix(sum, fault.number() as u64);
     match fault {
-        MessageFault::Cut => sum,
-        MessageFault::Unknown(byte) => mix(sum, *byte as u64),
-        MessageFault::Length(letter) => mix(sum, *letter as u64),
-        MessageFault::Field(FieldFault::Byte(spot)) => mix(
-            mix(sum, spot.letter as u64),
-            spot.offset as u64,
-        ),
-        MessageFault::Field(FieldFault::Range(spot)) => mix(
-            mix(sum, spot.letter as u64),
-            spot.offset as u64,
-        ),
-        MessageFault::Buffer => sum,
+        MessageFault::Cut | MessageFault::Buffer => sum,
+        MessageFault::Unknown(byte) | MessageFault::Length(byte) => mix(sum, *byte as u64),
+        MessageFault::Field(FieldFault::Byte(spot) | FieldFault::Range(spot)) => {
+            mix_all(sum, &[spot.letter as u64, spot.offset as u64])
+        }
     }
+}
+
+// The sum with each of the numbers.
+fn mix_all(sum: u64, values: &[u64]) -> u64
+    ensures { result ≡ mixed_all sum values.now }
+{
+    let mut sum = sum;
+    for value in values {
+        sum = mix(sum, *value);
+    }
+    sum
 }
 
 // The sum with one number more.
