@@ -1,8 +1,7 @@
 -- A line with a piece more.
-use Rattle.std.proofs.Common.{◌≡◌, ℕ, ◌+◌, ◌-◌, ◌≤◌, List, ◌++◌, length, take, sym, ap, ◌∙◌, arith, length-take-le}
+use Rattle.std.proofs.Common.{◌≡◌, ℕ, ◌+◌, ◌≤◌, List, ◌++◌, length, take, sym, ap, ◌∙◌, arith, length-take-le}
 use lib.Seq.{take-append-add}
 use borrow.Rule.Slice.PartMut.{put_mid}
-use Rattle.std.proofs.lemmas.List.{take_all}
 use Rattle.std.proofs.lemmas.Slice.{take-put_mid}
 
 -- the piece's front, as much as there is room for, fills the line up to 255 bytes
@@ -11,10 +10,6 @@ filled n k xs part h full room =
     let size : length (take n xs) ≡ n = length-take-le n xs (omega arith) in
     let whole : length (take n xs) + k ≡ 255 = omega arith in
     sym (take-append-add (take n xs) part k) ∙ ap (λ m. take m (take n xs ++ part)) whole
-
--- a piece for which there is room goes in whole
-pub fitted : (n : ℕ) (xs part : List ℕ) → n ≤ 255 → length xs ≡ 255 → length part ≤ 255 - n → take n xs ++ part ≡ take 255 (take n xs ++ part)
-fitted n xs part h full room = ap (λ ys. take n xs ++ ys) (sym (take_all (255 - n) part room)) ∙ filled n (255 - n) xs part h full (omega arith)
 
 -- the buffer after a piece was written behind the line's n bytes
 pub appended : (n k : ℕ) (xs ys more : List ℕ) → n ≤ length xs → ys ≡ more → take (n + length more) (put_mid n k xs ys) ≡ take n xs ++ more

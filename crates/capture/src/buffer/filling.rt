@@ -35,11 +35,7 @@ impl LineBuffer {
         ensures bound { self.now.len + length result.now ≤ 255 }
     {
         let room = 255 - self.len;
-        if part.len() <= room {
-            part
-        } else {
-            &part[0..room]
-        }
+        &part[..room.min(part.len())]
     }
 
     fn append(&mut self, more: &[u8])
@@ -55,7 +51,7 @@ impl LineBuffer {
     pub fn line(&self) -> &[u8]
         ensures { result.now ≡ held self.now }
     {
-        &self.bytes[0..self.len]
+        &self.bytes[..self.len]
     }
 
     // Lets the line go, for the next.

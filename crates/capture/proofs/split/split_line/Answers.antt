@@ -1,27 +1,22 @@
-use Rattle.std.proofs.Common.{◌≡◌, ◌+◌, ◌-◌, length, take, drop, Some, sym, ap, ◌∙◌, subst, add-one, arith, length-drop}
+use Rattle.std.proofs.Common.{◌+◌, length, drop, Some, sym, ap, ◌∙◌, add-one, arith, length-drop}
 use Rattle.std.proofs.lemmas.List.{take_rest}
-use Rattle.capture.proofs.Splitting.{Clear, before-found, after-found, before-none, after_none}
+use Rattle.capture.proofs.Splitting.{split-found, split-none}
 use Rattle.capture.proofs.split.split_line.Goals as goal
 
-pub returns-then-end-bytes : goal.returns-then-end-bytes
-returns-then-end-bytes c =
+pub returns-in-Some : goal.returns-in-Some
+returns-in-Some c =
     let xs = c.args.bytes.now in
-    let n = c.line_end-end.result in
-    let inside = c.if-end-bytes.true in
-    let clear = c.line_end-end.ensures.before in
-    let here = c.line_end-end.ensures.found inside in
-    let from_start : n - 0 ≡ n = omega arith in
+    let n = c.in-Some.end in
+    let found = split-found xs n (sym c.in-Some.ensures) in
     let rest = take_rest xs (n + 1) in
     let rest-length = ap length rest in
     let size = length-drop (n + 1) xs in
     record {
-      first = ap (λ m. take m xs) from_start ∙ sym (before-found xs n clear inside here);
-      second = (after-found xs n clear inside here ∙ ap Some (ap (λ m. drop m xs) (sym (add-one n)) ∙ sym rest), omega arith);
+      first = sym found.1;
+      second = (found.2 ∙ ap Some (ap (λ m. drop m xs) (sym (add-one n)) ∙ sym rest), omega (arith, found.0));
     }
 
-pub returns-else-end-bytes : goal.returns-else-end-bytes
-returns-else-end-bytes c =
-    let xs = c.args.bytes.now in
-    let end : c.line_end-end.result ≡ length xs = omega arith in
-    let clear : Clear xs (length xs) = subst (Clear xs) end c.line_end-end.ensures.before in
-    record { first = sym (before-none xs clear); second = after_none xs clear }
+pub returns-in-None : goal.returns-in-None
+returns-in-None c =
+    let none = split-none c.args.bytes.now (sym c.in-None.ensures) in
+    record { first = sym none.0; second = none.1 }
