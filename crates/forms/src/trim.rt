@@ -7,18 +7,8 @@ pub(crate) fn trimmed(bytes: &[u8]) -> &[u8]
     ensures spaces { (k : ℕ) → length result.now ≤ k → k < length bytes.now → slice_index bytes.now k ≡ 32 }
     ensures last { 0 < length result.now → slice_index bytes.now (length result.now - 1) ≢ 32 }
 {
-    &bytes[0..trimmed_len(bytes)]
-}
-
-// How many bytes there are up to the last that is no space.
-fn trimmed_len(bytes: &[u8]) -> usize
-    ensures within { result ≤ length bytes.now }
-    ensures spaces { (k : ℕ) → result ≤ k → k < length bytes.now → slice_index bytes.now k ≡ 32 }
-    ensures last { 0 < result → slice_index bytes.now (result - 1) ≢ 32 }
-{
-    let mut end = bytes.len();
-    while end > 0 && bytes[end - 1] == b' ' {
-        end -= 1;
+    match bytes.iter().rposition(|byte| *byte != b' ') {
+        Some(last) => &bytes[..last + 1],
+        None => &[],
     }
-    end
 }
