@@ -2,7 +2,7 @@
 use forms::refusal::Refusal;
 use messages::code::{Display, Side};
 use messages::message::Message;
-use messages::record::{AddOrder, Cancel};
+use messages::record::{AddOrder, Cancel, Terms};
 use pitch::writer::write;
 use std::io;
 
@@ -26,59 +26,51 @@ pub fn show_places(rt: &HostRuntime) -> io::Result<()> {
 
 // Records that no line gives: the first such field is named, also where there is no room.
 pub fn show_fields(rt: &HostRuntime) -> io::Result<()> {
-    let good = AddOrder {
+    let good = Terms {
         time: 34_200_000,
         order: 361,
         side: Side::Buy,
         shares: 500,
         symbol: ABCD,
         price: 102_500,
-        display: Display::Quoted,
     };
-    show(rt, &Message::AddShort(good), 0)?;
-    show(
-        rt,
-        &Message::AddShort(AddOrder {
+    let cases = [
+        good,
+        Terms {
             time: 86_400_000,
             ..good
-        }),
-        0,
-    )?;
-    show(
-        rt,
-        &Message::AddShort(AddOrder {
+        },
+        Terms {
             order: 4_738_381_338_321_616_896,
             ..good
-        }),
-        0,
-    )?;
-    show(rt, &Message::AddShort(AddOrder { shares: 0, ..good }), 0)?;
-    show(
-        rt,
-        &Message::AddShort(AddOrder {
+        },
+        Terms { shares: 0, ..good },
+        Terms {
             shares: 1_000_000,
             ..good
-        }),
-        0,
-    )?;
-    // Seven letters, which the short form has no room for.
-    show(
-        rt,
-        &Message::AddShort(AddOrder {
+        },
+        // Seven letters, which the short form has no room for.
+        Terms {
             symbol: 0x4142_4344_4546_4720,
             ..good
-        }),
-        0,
-    )?;
-    show(rt, &Message::AddShort(AddOrder { symbol: 0, ..good }), 0)?;
-    show(
-        rt,
-        &Message::AddShort(AddOrder {
-            price: 10_000_000_000,
-            ..good
-        }),
-        33,
-    )
+        },
+        Terms { symbol: 0, ..good },
+    ];
+    for terms in cases {
+        show(rt, &quoted(terms), 0)?;
+    }
+    let dear = Terms {
+        price: 10_000_000_000,
+        ..good
+    };
+    show(rt, &quoted(dear), 33)
+}
+
+fn quoted(terms: Terms<Side>) -> Message {
+    Message::AddShort(AddOrder {
+        terms,
+        display: Display::Quoted,
+    })
 }
 
 fn show(rt: &HostRuntime, message: &Message, place: usize) -> io::Result<()> {

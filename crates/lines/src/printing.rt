@@ -15,6 +15,7 @@ use messages::fault::MessageFault;
 use messages::message::Message;
 use pitch::reader::read;
 use std::alloc::{AllocError, Global};
+use std::fmt;
 
 #[derive(Drop)]
 pub struct Listing {
@@ -97,9 +98,7 @@ impl Listing {
         ensures even { LaidOut line.now message.now → Even self.old.totals → Even self.new.totals }
     {
         self.totals.count_read(comes_back(message, line));
-        let number = self.totals.lines;
-        let shown = Shown(message);
-        writeln!(self.text, "(line {number} {shown})")
+        self.list(&Shown(message))
     }
 
     fn list_refusal(&mut self, fault: &MessageFault) -> Result<(), AllocError>
@@ -108,8 +107,15 @@ impl Listing {
         ensures even { Even self.old.totals → Even self.new.totals }
     {
         self.totals.count_refused();
+        self.list(&Refusal(fault))
+    }
+
+    // Writes what the line is behind its number.
+    fn list<D: fmt::Display>(&mut self, form: &D) -> Result<(), AllocError>
+        ensures line { self.new.line ≡ self.old.line }
+        ensures totals { self.new.totals ≡ self.old.totals }
+    {
         let number = self.totals.lines;
-        let refusal = Refusal(fault);
-        writeln!(self.text, "(line {number} {refusal})")
+        writeln!(self.text, "(line {number} {form})")
     }
 }

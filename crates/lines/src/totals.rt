@@ -5,7 +5,7 @@ ghost use Rattle.lines.specs.Counts.{more};
 use std::fmt;
 
 // Each stops at the most that it holds; no capture has so many lines.
-#[derive(Clone, Copy)]
+#[derive(Clone, Copy, Default)]
 pub struct Totals {
     pub lines: u64,
     pub read: u64,
@@ -17,12 +17,7 @@ impl Totals {
     pub fn new() -> Totals
         ensures { result ≡ record { lines = 0; read = 0; refused = 0; rewritten = 0 } }
     {
-        Totals {
-            lines: 0,
-            read: 0,
-            refused: 0,
-            rewritten: 0,
-        }
+        Totals::default()
     }
 
     // Counts a line that is a message, and whether it came back from its message.
@@ -47,13 +42,10 @@ impl Totals {
 
 impl fmt::Display for Totals {
     fn fmt<W: fmt::Write>(&self, f: &mut fmt::Formatter<W>) -> fmt::Result {
-        let lines = self.lines;
-        let read = self.read;
-        let refused = self.refused;
-        let rewritten = self.rewritten;
         write!(
             f,
-            "(lines {lines} (read {read}) (refused {refused}) (rewritten {rewritten}))"
+            "(lines {} (read {}) (refused {}) (rewritten {}))",
+            self.lines, self.read, self.refused, self.rewritten
         )
     }
 }
