@@ -1,5 +1,5 @@
 -- A list cut at the place of a key: what is in front, the record, and what is behind.
-use Rattle.std.proofs.Common.{◌≡◌, ℕ, zero, suc, ◌+◌, ◌<◌, ◌≤◌, true, false, ◌⊎◌, List, [], ◌∷◌, ◌++◌, length, get_or, take, drop, set, is_some, Some, None, Option, Ok, Err, Result, sym, refl, ap, subst, ⊎_elim, add-one, arith}
+use Rattle.std.proofs.Common.{◌≡◌, ℕ, zero, suc, ◌+◌, ◌<◌, ◌≤◌, true, false, ◌⊎◌, List, [], ◌∷◌, ◌++◌, length, get_or, take, drop, set, is_some, Some, None, Option, Ok, Err, Result, sym, refl, ap, subst, ⊎_elim, arith}
 use denote.Bor.{Bor}
 use Rattle.std.specs.List.{slice_get, insert, remove}
 use Rattle.std.specs.Option.{option_copied, option_and_then}
@@ -112,6 +112,10 @@ module _ {X : Type 0} (key : X → ℕ) where
     pub looked-up : (r : Result ℕ ℕ) → Sought key k xs r → Rising key xs → lookup key k xs ≡ option_and_then (slice_get xs) (result_ok r)
     looked-up (Ok j) s h = found k xs j s h
     looked-up (Err j) s h = missing k xs j s h
+
+    pub place-found : (r : Result ℕ ℕ) (i : ℕ) → Some i ≡ result_ok r → Sought key k xs r → Stands key k xs i
+    place-found (Ok j) i e s = let same : j ≡ i = cc in subst (Stands key k xs) same s
+    place-found (Err j) i e s = cc
 
     pub from-sought : (r : Result ℕ ℕ) (i : ℕ) → (r ≡ Ok i) ⊎ (r ≡ Err i) → Sought key k xs r → Rising key xs → first_from key k xs ≡ slice_get xs i
     from-sought r i w s h =

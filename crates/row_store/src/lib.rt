@@ -5,5 +5,4 @@ mod change;
 pub mod meaning;
 pub mod row;
 mod seek;
-mod shift;
 mod sweep;

@@ -15,8 +15,8 @@ pub(crate) fn held<R>(rows: &[R], count: usize) -> &[R]
     &rows[..count.min(rows.len())]
 }
 
-// The place of the record with the key, or the one where it would go. The keys rise, and yet the search goes from the first record to the
-// last: that is the order in which a row store is to look.
+// The place of the record with the key, or the one where it would go. A row store searches from the first record to the last, and goes on to
+// the last where the key is not held: so this is no binary search, though the keys rise.
 pub(crate) fn seek<R: Record>(rows: &[R], key: u64) -> Result<usize, usize>
     ensures { Sought R.Record.key key rows.now result }
 {

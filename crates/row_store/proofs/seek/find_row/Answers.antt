@@ -1,4 +1,4 @@
-use Rattle.std.proofs.Common.{None, ◌∙◌, sym, ap}
+use Rattle.std.proofs.Common.{Some, None, ◌∙◌, sym, ap}
 use Rattle.std.specs.List.{slice_get}
 use Rattle.std.specs.Option.{option_and_then}
 use Rattle.row_store.proofs.Places.{looked-up, read-at}
@@ -12,5 +12,5 @@ returns-in_err-place g c h =
 pub returns : goal.returns
 returns g c h =
     let xs = c.args.rows.now in
-    c.copied.ensures ∙ read-at xs _ _ c.get.ensures.lookup ∙ ap (option_and_then (slice_get xs)) c.in_ok-place.ensures.value
+    c.copied.ensures ∙ read-at xs _ _ c.get.ensures.lookup ∙ ap (option_and_then (slice_get xs)) {x = Some c.in_ok-place.place} c.in_ok-place.ensures.value
     ∙ sym (looked-up g.R.Record.key c.args.key xs c.seek.result c.seek.ensures h)

@@ -1,7 +1,4 @@
-use Rattle.std.proofs.Common.{◌+◌, ◌<◌, drop, sym, refl, ◌∙◌, subst, arith}
-use Rattle.std.proofs.lemmas.List.{take_all}
-use Rattle.std.proofs.lemmas.Option.{slice_get_read}
-use Rattle.store.proofs.Each.{Higher}
+use Rattle.std.proofs.Common.{◌+◌, ◌<◌, arith}
 use Rattle.row_store.proofs.Places.{lower-more, higher-more, none-behind}
 use Rattle.row_store.proofs.seek.seek.Goals as goal
 use Rattle.row_store.proofs.seek.seek.Goals.{then-here-key-2, else-here-key-2}
@@ -30,4 +27,3 @@ loop-i-preserved g c =
             λ h. higher-more key k xs i c.loop-i.place x c.loop-i-test.true c.loop-i.invariant.0 c.index-rows-i.is high (c.loop-i.invariant.2 h),
           )
     ]
-
