@@ -8,17 +8,14 @@ use Rattle.std.proofs.lemmas.List.Edits.{length-paste}
 use Rattle.std.proofs.lemmas.Option.{slice_get_read}
 use Rattle.std.proofs.lemmas.Bool.{le-leb, lt-leb}
 use Rattle.store.specs.Lists.{Rising, lookup, holds}
-use Rattle.store.specs.Models.{Model, insert_says, inserted, replace_says, replacing, removing}
+use Rattle.store.specs.Models.{insert_says, inserted, replace_says, replacing, removing}
 use Rattle.store.specs.declared.refusal.InsertRefusal.TheVariants.{Taken, Full}
 use Rattle.store.specs.declared.refusal.ReplaceRefusal.TheVariants.{Missing}
+use Rattle.store.proofs.Default.{same-model}
 use Rattle.row_store.specs.Places.{Stands, Goes, Sought}
 use Rattle.row_store.specs.Rows.{InOrder, Changed}
 use Rattle.row_store.proofs.Places.{held-where-found, not-held, found, missing, replaced-found, replaced-missing, rising-set, placed-missing, rising-inserted, without-found, without-missing, rising-removed}
 use Rattle.row_store.proofs.Shifts.{moved-up, moved-down}
-
-module _ {X : Type 0} where
-  pub same-model : (l m : Model X) → l.rows ≡ m.rows → l.limit ≡ m.limit → l ≡ m
-  same-model l m e f = λ j. record { rows = e j; limit = f j }
 
 module _ {X : Type 0} (key : X → ℕ) (n : ℕ) (xs : List X) (h : InOrder key n xs) where
   moved-length : (from to : ℕ) → to + (n - from) ≤ length xs → length (copy_within xs from n to) ≡ length xs

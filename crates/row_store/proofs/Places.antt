@@ -16,7 +16,7 @@ use Rattle.row_store.specs.Places.{Stands, Goes, Sought}
 
 module _ {X : Type 0} where
   pub cut : (xs : List X) (i : ℕ) (x : X) → slice_get xs i ≡ Some x → xs ≡ take i xs ++ (x ∷ drop (suc i) xs)
-  cut [] i x e = let z : ◌≡◌ {A = ℕ} 0 1 = cc in absurd (omega arith)
+  cut [] i x e = cc
   cut (y ∷ xs) zero x e = cc
   cut (y ∷ xs) (suc i) x e = ap (λ t. y ∷ t) (cut xs i x e)
 

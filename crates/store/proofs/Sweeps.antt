@@ -53,9 +53,6 @@ module _ {X : Type 0} (p : X → Bool) where
       (λ e. rw e (each-others (λ y. key x < key y) xs h.0, rising-others key xs h.1))
       (cases_Bool (p x))
 
-  pub those-picked : (x : X) (xs : List X) → p x ≡ true → those p (x ∷ xs) ≡ x ∷ those p xs
-  those-picked x xs e = rw e refl
-
   -- a picked record put in is one more of those, and none of the others
   pub those-placed : (key : X → ℕ) (r : X) (xs : List X) → p r ≡ true → Permᴰ (those p (placed key r xs)) (r ∷ those p xs)
   those-placed key r [] e = rw e (Permᴰ.refl (r ∷ []))

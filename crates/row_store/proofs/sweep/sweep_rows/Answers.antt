@@ -1,7 +1,7 @@
 use Rattle.std.proofs.Common.{◌≡◌, ◌<◌, ◌≤◌, true, false, length, take, sym, ap, ◌∙◌, subst, arith}
 use Rattle.store.specs.Lists.{Rising}
 use Rattle.store.proofs.Sweeps.{rising-others, takings, takings-more_picked, takings-more_kept}
-use Rattle.row_store.proofs.Changes.{same-model}
+use Rattle.store.proofs.Default.{same-model}
 use Rattle.row_store.proofs.Sweeping.{one-more, swept-out, swept-down}
 use Rattle.row_store.proofs.sweep.sweep_rows.Goals as goal
 use Rattle.row_store.proofs.sweep.sweep_rows.Goals.{then-picks, else-picks}
