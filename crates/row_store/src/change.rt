@@ -6,6 +6,7 @@ ghost use Rattle.store.specs.Models.{insert_says, inserted, replace_says, replac
 ghost use Rattle.row_store.specs.Rows.{InOrder, Changed};
 
 use crate::seek::{held, seek};
+use crate::shift::{move_down, move_up};
 use store::record::Record;
 use store::refusal::{InsertRefusal, ReplaceRefusal};
 
@@ -24,7 +25,7 @@ pub(crate) fn insert_row<R: Record>(
     if n >= rows.len() {
         return Err(InsertRefusal::Full);
     }
-    rows.copy_within(place..n, place + 1);
+    move_up(rows, place, n);
     rows[place] = item;
     *count = n + 1;
     Ok(())
@@ -51,7 +52,7 @@ pub(crate) fn remove_row<R: Record>(rows: &mut [R], count: &mut usize, key: u64)
     let n = (*count).min(rows.len());
     let place = seek(&rows[..n], key).ok()?;
     let out = rows[place];
-    rows.copy_within(place + 1..n, place);
+    move_down(rows, place, n);
     *count = n - 1;
     Some(out)
 }

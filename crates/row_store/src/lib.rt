@@ -5,4 +5,5 @@ mod change;
 pub mod meaning;
 pub mod row;
 mod seek;
+mod shift;
 mod sweep;

@@ -9,5 +9,5 @@ returns-then-n-rows g c h = full g.R.Record.key _ _ h c.args.item _ (rw (c.held.
 
 pub returns : goal.returns
 returns g c h =
-    rw c.copy_within.ensures.after
+    rw c.move_up.ensures
     (put-in g.R.Record.key _ _ h c.args.item _ (rw (c.held.ensures, c.key.ensures) at c.in-Err.ensures) c.if-n-rows.false)

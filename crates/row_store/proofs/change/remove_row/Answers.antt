@@ -12,4 +12,4 @@ pub returns : goal.returns
 returns g c h =
     let all : c.min-n.result ≡ c.args.count.now = omega arith in
     let s = place-found g.R.Record.key c.args.key _ _ _ c.in_ok-place.ensures.value (rw all at c.seek.ensures) in
-    rw (c.copy_within.ensures.after, all) (taken-out g.R.Record.key _ _ h c.args.key _ _ s c.index-rows-place.is)
+    rw (c.move_down.ensures, all) (taken-out g.R.Record.key _ _ h c.args.key _ _ s c.index-rows-place.is)
