@@ -1,6 +1,7 @@
 // Changes to the records among the rows, by their keys.
 //
-// The rows and how many of them are held come apart, and not as the store: it is a generic struct over lent rows, and its methods pass them on.
+// The slice and the count stay parameters of these functions, and are no struct of their own: a row store is a generic struct over the lent slice,
+// whose methods pass the slice to functions.
 ghost use Rattle.store.specs.Lists.{lookup};
 ghost use Rattle.store.specs.Models.{insert_says, inserted, replace_says, replacing, removing};
 ghost use Rattle.row_store.specs.Rows.{InOrder, Changed};

@@ -1,5 +1,7 @@
-// Moving the rows from a place on, up and down by one. These are `copy_within`, whose general form was tried: inlined behind the search it makes the
-// search slower, and adds and removes take 6 to 11 parts in 100 longer, behind a front row a third and more.
+// Moving the rows from a place on up by one, or down by one.
+//
+// This is `copy_within` at two shapes. Tried in their place it is too slow: inlined behind the search it slows the search down, and adds and removes
+// take up to 11 parts in 100 longer, behind a front row up to 69.
 ghost use Rattle.std.specs.Prelude.{◌≡◌, ◌+◌, ◌<◌, ◌≤◌, length};
 ghost use Rattle.std.specs.List.{copy_within};
 
