@@ -1,30 +1,25 @@
 -- What stands in front goes on agreeing with the list below, after each change of both.
-use Rattle.std.proofs.Common.{◌≡◌, ℕ, ◌%◌, Bool, true, false, eqb, leb, List, length, get_or, set, is_some, Some, None, Err, Option, Result, sym, refl, ap, ◌∙◌, ⊎_elim, mod-lt, arith, lit<}
+use Rattle.std.proofs.Common.{◌≡◌, ℕ, ◌%◌, Bool, true, false, eqb, List, length, get_or, set, is_some, Some, None, Ok, Err, Option, sym, refl, ap, ◌∙◌, ⊎_elim, mod-lt, lit<}
 use Rattle.std.proofs.lemmas.List.{get_or-set_same, get_or-set_other, get_or_past, get_or-map, get_or-replicate, length-set, length-map}
 use Rattle.std.proofs.lemmas.Bool.{eqb-true, eq-eqb, cases_eq, cases_lt, cases_Bool, both_ways}
 use Rattle.records.specs.declared.order.Order.{Order}
-use Rattle.store.specs.declared.refusal.InsertRefusal.{InsertRefusal}
-use Rattle.store.specs.declared.refusal.InsertRefusal.TheVariants.{Taken, Full}
 use Rattle.store.specs.declared.refusal.ReplaceRefusal.{ReplaceRefusal}
 use Rattle.store.specs.Models.{Model, holding, insert_says, inserted, replace_says, replacing, removing, sweeping}
 use Rattle.store.specs.Lists.{lookup, holds, placed, replaced, without, others}
-use Rattle.front_row.specs.Fronts.{key_of, matching, standing, fronted, taken, unfronted, cleared, swept_place, swept, Agrees, Backed}
+use Rattle.front_row.specs.Fronts.{key_of, matching, standing, fronted, unfronted, cleared, swept_place, swept, Agrees, Follows, Backed}
+use Rattle.store.proofs.Inserting.{accepted}
 use Rattle.store.proofs.Lookups.{lookup-inserted, lookup-placed-other, lookup-replaced, lookup-replaced-other, lookup-without-other, lookup-others}
-
--- a place does not hold something and nothing
-none-some : {X : Type 0} (e : Option X) (x : X) → e ≡ None → e ≡ Some x → ⊥
-none-some e x n s = let z : ◌≡◌ {A = ℕ} 0 1 = cc in omega arith
 
 -- what stands under a key is what its place holds, and has that key
 matching-entry : (k : ℕ) (e : Option Order) (o : Order) → matching k e ≡ Some o → (e ≡ Some o) × (key_of o ≡ k)
-matching-entry k None o h = absurd (none-some None o refl h)
+matching-entry k None o h = cc
 matching-entry k (Some x) o h =
     ⊎_elim
     (λ t.
     let same : ◌≡◌ {A = Option Order} (Some x) (Some o) = rw t at h in
     let key : key_of x ≡ k = eqb-true (key_of x) k t in
     (same, (let f : x ≡ o = cc in sym (ap key_of f) ∙ key)))
-    (λ t. absurd (none-some None o refl (rw t at h)))
+    (λ t. let z = rw t at h in cc)
     (cases_Bool (eqb (key_of x) k))
 
 -- a place written over holds what was written, if it holds anything
@@ -33,7 +28,7 @@ set-entry places i j e x q h =
     let g = ap (λ t. get_or (set places i e) t None) (sym q) ∙ h in
     ⊎_elim
     (λ l. sym (get_or-set_same places i e None l) ∙ g)
-    (λ l. absurd (none-some (get_or (set places i e) i None) x (get_or_past (set places i e) i None (simp length-set l)) g))
+    (λ l. let past = get_or_past (set places i e) i None (simp length-set l) in cc)
     (cases_lt i (length places))
 
 standing-set-other : (places : List (Option Order)) (i k : ℕ) (e : Option Order) → (k % 16 ≡ i → ⊥) → standing (set places i e) k ≡ standing places k
@@ -80,7 +75,8 @@ unfronted-none places k o h =
     ⊎_elim
     (λ t.
     let entry = matching-entry k (get_or (set places (k % 16) None) (k % 16) None) o (rw t at h) in
-    none-some {X = Order} None o refl (set-entry places (k % 16) (k % 16) None o refl entry.0))
+    let none = set-entry places (k % 16) (k % 16) None o refl entry.0 in
+    cc)
     (λ t. both_ways (is_some (standing places k)) t (ap is_some (let e : standing places k ≡ Some o = rw t at h in e)))
     (cases_Bool (is_some (standing places k)))
 
@@ -93,7 +89,8 @@ unfronted-before places j k o h =
     ⊎_elim
     (λ e.
     let entry = matching-entry j (get_or (set places (k % 16) None) (j % 16) None) o g in
-    absurd (none-some {X = Order} None o refl (set-entry places (k % 16) (j % 16) None o e entry.0)))
+    let none = set-entry places (k % 16) (j % 16) None o e entry.0 in
+    cc)
     (λ n. sym (standing-set-other places (k % 16) j None n) ∙ g)
     (cases_eq (j % 16) (k % 16)))
     (λ t. rw t at h)
@@ -110,14 +107,16 @@ agrees-cleared : (rows : List Order) → Agrees cleared rows
 unfolding Agrees
 agrees-cleared rows k o h =
     let entry = matching-entry k (get_or cleared (k % 16) None) o h in
-    absurd (none-some {X = Order} (get_or cleared (k % 16) None) o (get_or-replicate 16 (k % 16) None None (mod-lt k (lit< tt))) entry.0)
+    let none : get_or cleared (k % 16) None ≡ None = get_or-replicate 16 (k % 16) None None (mod-lt k (lit< tt)) in
+    let some = entry.0 in
+    cc
 
 -- a place that still holds something after a sweep held it before, and the test spares it
 swept-place : (p : Order → Bool) (e : Option Order) (o : Order) → swept_place p e ≡ Some o → (e ≡ Some o) × (p o ≡ false)
-swept-place p None o h = absurd (none-some {X = Order} None o refl h)
+swept-place p None o h = cc
 swept-place p (Some x) o h =
     ⊎_elim
-    (λ t. absurd (none-some {X = Order} None o refl (rw t at h)))
+    (λ t. let z = rw t at h in cc)
     (λ t. let same : ◌≡◌ {A = Option Order} (Some x) (Some o) = rw t at h in (same, (let f : o ≡ x = cc in ap p f ∙ t)))
     (cases_Bool (p x))
 
@@ -148,44 +147,35 @@ moved : (before after : List (Option Order)) (rows later : List Order) → after
 moved before after rows later p q a = rw p (rw q a)
 
 -- after each call of the store below, by what it answered and left
-pub after-insert : (r : Order) (answer : Result (Unit {0}) InsertRefusal) (before after : List (Option Order)) (m n : Model Order) →
-    after ≡ taken answer r before → answer ≡ insert_says key_of r m → n ≡ inserted key_of r m → Agrees before m.rows → Agrees after n.rows
-after-insert r answer before after m n p e f a =
-    ⊎_elim
-    (λ t. refused Taken (rw t at e) (rw t at f))
-    (λ t.
-    ⊎_elim
-    (λ u. refused Full (rw u at (rw t at e)) (rw u at (rw t at f)))
-    (λ u.
+pub after-insert : (r : Order) (before after : List (Option Order)) → after ≡ fronted r before → Follows (λ m n. (Ok tt ≡ insert_says key_of r m) × (n ≡ inserted key_of r m)) before after
+after-insert r before after p m n w a =
+    let free = accepted key_of r m tt w.0 in
     moved (fronted r before) after (placed key_of r m.rows) n.rows
-    (p ∙ ap (λ x. taken x r before) (rw u at (rw t at e))) (ap (λ x. x.rows) (let g : n ≡ holding (placed key_of r m.rows) m = rw u at (rw t at f) in g))
-    (agrees-inserted r before m.rows t a))
-    (cases_Bool (leb m.limit (length m.rows))))
-    (cases_Bool (holds key_of (key_of r) m.rows))
-  where
-    refused : (w : InsertRefusal) → answer ≡ Err w → n ≡ m → Agrees after n.rows
-    refused w d g = moved before after m.rows n.rows (p ∙ ap (λ x. taken x r before) d) (ap (λ x. x.rows) g) a
+    p (ap (λ x. x.rows) (let g : n ≡ holding (placed key_of r m.rows) m = rw free.1 at (rw free.0 at w.1) in g))
+    (agrees-inserted r before m.rows free.0 a)
 
-pub after-replace : (r : Order) (answer : Result (Unit {0}) ReplaceRefusal) (before after : List (Option Order)) (m n : Model Order) →
-    after ≡ taken answer r before → answer ≡ replace_says key_of r m → n ≡ replacing key_of r m → Agrees before m.rows → Agrees after n.rows
-after-replace r answer before after m n p e f a =
+pub after-replace : (r : Order) (before after : List (Option Order)) → after ≡ fronted r before → Follows (λ m n. (Ok tt ≡ replace_says key_of r m) × (n ≡ replacing key_of r m)) before after
+after-replace r before after p m n w a =
     ⊎_elim
-    (λ t. rest (fronted r before) (p ∙ ap (λ x. taken x r before) (rw t at e)) (agrees-replaced r before m.rows t a))
-    (λ t. rest before (p ∙ ap (λ x. taken x r before) (rw t at e)) (agrees-missing r before m.rows t a))
+    (λ t. moved (fronted r before) after (replaced key_of r m.rows) n.rows p (ap (λ x. x.rows) w.1) (agrees-replaced r before m.rows t a))
+    (λ t. let z = rw t at w.0 in cc)
     (cases_Bool (holds key_of (key_of r) m.rows))
-  where
-    rest : (places : List (Option Order)) → after ≡ places → Agrees places (replaced key_of r m.rows) → Agrees after n.rows
-    rest places d h = moved places after (replaced key_of r m.rows) n.rows d (ap (λ x. x.rows) f) h
 
-pub after-remove : (k : ℕ) (before after : List (Option Order)) (m n : Model Order) →
-    after ≡ unfronted k before → n ≡ removing key_of k m → Agrees before m.rows → Agrees after n.rows
-after-remove k before after m n p f a =
+-- a refused replacement changes nothing
+pub unreplaced : (r : Order) (e : ReplaceRefusal) (places : List (Option Order)) (m n : Model Order) → Err e ≡ replace_says key_of r m → n ≡ replacing key_of r m → Agrees places m.rows → Agrees places n.rows
+unreplaced r e places m n w f a =
+    ⊎_elim
+    (λ t. let z = rw t at w in cc)
+    (λ t. moved places places (replaced key_of r m.rows) n.rows refl (ap (λ x. x.rows) f) (agrees-missing r places m.rows t a))
+    (cases_Bool (holds key_of (key_of r) m.rows))
+
+pub after-remove : (k : ℕ) (before after : List (Option Order)) → after ≡ unfronted k before → Follows (λ m n. n ≡ removing key_of k m) before after
+after-remove k before after p m n f a =
     moved (unfronted k before) after (without key_of k m.rows) n.rows p (ap (λ x. x.rows) f) (agrees-removed k before m.rows a)
 
-pub after-empty : (after : List (Option Order)) (rows : List Order) → after ≡ cleared → Agrees after rows
-after-empty after rows p = rw p (agrees-cleared rows)
+pub after-clear : (after : List (Option Order)) → after ≡ cleared → (rows : List Order) → Agrees after rows
+after-clear after p rows = rw p (agrees-cleared rows)
 
-pub after-sweep : (t : Order → Bool) (before after : List (Option Order)) (m n : Model Order) →
-    after ≡ swept t before → n ≡ sweeping t m → Agrees before m.rows → Agrees after n.rows
-after-sweep t before after m n p f a =
+pub after-sweep : (t : Order → Bool) (before after : List (Option Order)) → after ≡ swept t before → Follows (λ m n. n ≡ sweeping t m) before after
+after-sweep t before after p m n f a =
     moved (swept t before) after (others t m.rows) n.rows p (ap (λ x. x.rows) f) (agrees-swept t before m.rows a)

@@ -1,6 +1,10 @@
 // Sixteen places with an order or none each, an order at its key's remainder.
-ghost use Rattle.std.specs.Prelude.{◌≡◌, ◌%◌, if◌then◌else◌};
-ghost use Rattle.front_row.specs.Fronts.{standing, fronted, unfronted, cleared, swept_place, swept};
+//
+// The front follows the store below: what stands in front is what the store has, and goes on to be so if the front is changed after the store.
+ghost use Rattle.std.specs.Prelude.{◌≡◌, ◌%◌, List, Ok};
+ghost use Rattle.records.specs.declared.order.Order.{Order};
+ghost use Rattle.store.specs.Models.{insert_says, inserted, replace_says, replacing, removing, sweeping};
+ghost use Rattle.front_row.specs.Fronts.{key_of, standing, fronted, unfronted, cleared, swept_place, swept, Agrees, Follows, Backed};
 
 use records::order::Order;
 use store::pick::Pick;
@@ -24,36 +28,27 @@ impl Front {
         }
     }
 
-    // The order that stands under a key.
+    // The order that stands under a key: the store's own.
     pub fn get(&self, key: u64) -> Option<Order>
-        ensures { result ≡ standing self.now.places key }
+        ensures says { result ≡ standing self.now.places key }
+        ensures backed { (rows : List Order) → Agrees self.now.places rows → Backed rows key result }
     {
-        let entry = self.places[place_of(key)];
-        match entry {
-            Some(order) if order.key() == key => entry,
-            _ => None,
-        }
+        self.places[place_of(key)].filter(|order| order.key() == key)
     }
 
-    // Puts an order at its place, whatever stands there.
+    // Puts an order that the store has taken at its place, whatever stands there.
     pub fn put(&mut self, order: Order)
-        ensures { self.new.places ≡ fronted order self.old.places }
+        ensures places { self.new.places ≡ fronted order self.old.places }
+        ensures inserted { Follows (λ m n. (Ok tt ≡ insert_says key_of order m) × (n ≡ inserted key_of order m)) self.old.places self.new.places }
+        ensures replaced { Follows (λ m n. (Ok tt ≡ replace_says key_of order m) × (n ≡ replacing key_of order m)) self.old.places self.new.places }
     {
         self.places[place_of(order.key())] = Some(order);
     }
 
-    // Puts an order at its place, if the store below has taken it.
-    pub fn put_if(&mut self, accepted: bool, order: Order)
-        ensures { self.new.places ≡ (if accepted then fronted order self.old.places else self.old.places) }
-    {
-        if accepted {
-            self.put(order);
-        }
-    }
-
     // Leaves the place of a key empty, if it is this key that stands there.
     pub fn remove(&mut self, key: u64)
-        ensures { self.new.places ≡ unfronted key self.old.places }
+        ensures places { self.new.places ≡ unfronted key self.old.places }
+        ensures agrees { Follows (λ m n. n ≡ removing key_of key m) self.old.places self.new.places }
     {
         if self.get(key).is_some() {
             self.places[place_of(key)] = None;
@@ -62,42 +57,34 @@ impl Front {
 
     // Leaves all places empty.
     pub fn clear(&mut self)
-        ensures { self.new.places ≡ cleared }
+        ensures places { self.new.places ≡ cleared }
+        ensures agrees { (rows : List Order) → Agrees self.new.places rows }
     {
-        let empty = [None; PLACES];
-        self.places = empty;
+        self.places = [None; PLACES];
     }
 
     // Leaves the places empty of all orders that a test picks.
     pub fn sweep<P: Pick<Order>>(&mut self, pick: &P)
-        ensures { self.new.places ≡ swept (P.Pick.picked pick.now) self.old.places }
+        ensures places { self.new.places ≡ swept (P.Pick.picked pick.now) self.old.places }
+        ensures agrees { Follows (λ m n. n ≡ sweeping (P.Pick.picked pick.now) m) self.old.places self.new.places }
     {
-        spare_all(pick, &mut self.places);
-    }
-}
-
-// A slice, since its length is known all through the loop.
-fn spare_all<P: Pick<Order>>(pick: &P, places: &mut [Option<Order>])
-    ensures { places.new ≡ swept (P.Pick.picked pick.now) places.old }
-{
-    for entry in places.iter_mut() {
-        *entry = spare(pick, *entry);
+        // A slice, since its length is known all through the loop.
+        for place in &mut self.places[..] {
+            *place = spared(pick, *place);
+        }
     }
 }
 
 // What a place holds after a sweep.
-fn spare<P: Pick<Order>>(pick: &P, entry: Option<Order>) -> Option<Order>
-    ensures { result ≡ swept_place (P.Pick.picked pick.now) entry }
+fn spared<P: Pick<Order>>(pick: &P, place: Option<Order>) -> Option<Order>
+    ensures { result ≡ swept_place (P.Pick.picked pick.now) place }
 {
-    match entry {
-        Some(order) if !pick.picks(order) => entry,
-        _ => None,
-    }
+    place.filter(|order| !pick.picks(*order))
 }
 
 // Where a key may stand.
 fn place_of(key: u64) -> usize
     ensures { result ≡ key % 16 }
 {
-    (key % PLACES as u64) as usize
+    key as usize % PLACES
 }

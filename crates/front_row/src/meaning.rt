@@ -35,10 +35,7 @@ impl<S: Store<Order>> Store<Order> for FrontRow<S> {
         ensures says { Ready S.Store self.now → result ≡ lookup key_of key (model_of S.Store self.now).rows }
         ensures front { (o : Order) → Some o ≡ standing self.now.front.places key → result ≡ Some o }
     {
-        match self.front.found(key) {
-            Some(order) => Some(order),
-            None => self.below.find(key),
-        }
+        self.front.get(key).or_else(|| self.below.find(key))
     }
 
     fn from(&self, key: u64) -> Option<Order> {
@@ -55,20 +52,21 @@ impl<S: Store<Order>> Store<Order> for FrontRow<S> {
         ensures still { Ready S.Store self.old → Ready S.Store self.new }
         ensures front { self.new.front.places ≡ taken result item self.old.front.places }
     {
-        let answer = self.below.insert(item);
-        self.front.after_insert(item, answer);
-        answer
+        self.below.insert(item)?;
+        self.front.put(item);
+        Ok(())
     }
 
+    #[tactic(auto, using(crate::proofs::Agreement::unreplaced))]
     fn replace(&mut self, item: Order) -> Result<(), ReplaceRefusal>
         ensures says { Ready S.Store self.old → result ≡ replace_says key_of item (model_of S.Store self.old) }
         ensures leaves { Ready S.Store self.old → model_of S.Store self.new ≡ replacing key_of item (model_of S.Store self.old) }
         ensures still { Ready S.Store self.old → Ready S.Store self.new }
         ensures front { self.new.front.places ≡ taken result item self.old.front.places }
     {
-        let answer = self.below.replace(item);
-        self.front.after_replace(item, answer);
-        answer
+        self.below.replace(item)?;
+        self.front.put(item);
+        Ok(())
     }
 
     fn remove(&mut self, key: u64) -> Option<Order>
@@ -78,7 +76,7 @@ impl<S: Store<Order>> Store<Order> for FrontRow<S> {
         ensures front { self.new.front.places ≡ unfronted key self.old.front.places }
     {
         let removed = self.below.remove(key);
-        self.front.after_remove(key);
+        self.front.remove(key);
         removed
     }
 
@@ -88,7 +86,7 @@ impl<S: Store<Order>> Store<Order> for FrontRow<S> {
         ensures front { self.new.front.places ≡ cleared }
     {
         self.below.empty();
-        self.front.after_empty();
+        self.front.clear();
     }
 
     fn sweep<P: Pick<Order>, M: Measure<Order>>(&mut self, pick: &P, measure: &M) -> M::Out
@@ -98,7 +96,7 @@ impl<S: Store<Order>> Store<Order> for FrontRow<S> {
         ensures front { self.new.front.places ≡ swept (P.Pick.picked pick.now) self.old.front.places }
     {
         let given = self.below.sweep(pick, measure);
-        self.front.after_sweep(pick);
+        self.front.sweep(pick);
         given
     }
 }

@@ -18,28 +18,29 @@ impl Value {
     pub fn of_parts(high: u64, low: u64) -> Value
         ensures { Parts result (stopped (high * 10 ^ 16 + low)) }
     {
-        capped(high as u128 + (low / UNIT) as u128, low % UNIT)
+        capped(u128::from(high) + u128::from(low / UNIT), low % UNIT)
     }
 
     pub fn product(shares: u64, price: u64) -> Value
         ensures { Parts result (stopped (shares * price)) }
     {
-        let all = shares as u128 * price as u128;
+        let unit = u128::from(UNIT);
+        let all = u128::from(shares) * u128::from(price);
         // So it is for the shares and the price of any message, and no division is done for it.
-        if all < UNIT as u128 {
+        if all < unit {
             return Value {
                 high: 0,
                 low: all as u64,
             };
         }
-        capped(all / UNIT as u128, (all % UNIT as u128) as u64)
+        capped(all / unit, (all % unit) as u64)
     }
 
     // With no division: the low parts carry at most one.
     pub fn sum(self, other: Value) -> Value
         ensures { Parts result (stopped (worth self + worth other)) }
     {
-        let high = self.high as u128 + other.high as u128;
+        let high = u128::from(self.high) + u128::from(other.high);
         let low = self.low + other.low;
         if low < UNIT {
             capped(high, low)
@@ -51,20 +52,19 @@ impl Value {
     pub fn difference(self, other: Value) -> Value
         ensures { Parts result (worth self - worth other) }
     {
-        if self.low >= other.low {
-            if self.high >= other.high {
-                return Value {
-                    high: self.high - other.high,
-                    low: self.low - other.low,
-                };
+        if self.low >= other.low && self.high >= other.high {
+            Value {
+                high: self.high - other.high,
+                low: self.low - other.low,
             }
-        } else if self.high > other.high {
-            return Value {
+        } else if self.low < other.low && self.high > other.high {
+            Value {
                 high: self.high - other.high - 1,
                 low: self.low + UNIT - other.low,
-            };
+            }
+        } else {
+            Value::zero()
         }
-        Value::zero()
     }
 }
 
@@ -73,15 +73,11 @@ fn capped(high: u128, low: u64) -> Value
     requires { low < 10 ^ 16 }
     ensures { Parts result (stopped (high * 10 ^ 16 + low)) }
 {
-    if high <= u64::MAX as u128 {
-        Value {
-            high: high as u64,
-            low,
-        }
-    } else {
-        Value {
+    match u64::try_from(high) {
+        Ok(high) => Value { high, low },
+        Err(_) => Value {
             high: u64::MAX,
             low: UNIT - 1,
-        }
+        },
     }
 }

@@ -4,7 +4,7 @@ ghost use Rattle.records.specs.KeysLemmas as Keys;
 
 use store::record::Record;
 
-#[derive(Clone, Copy, PartialEq, Eq)]
+#[derive(Clone, Copy, PartialEq, Eq, Debug)]
 pub struct Execution {
     // its Execution ID
     pub id: u64,

@@ -5,7 +5,7 @@ ghost use Rattle.records.specs.KeysLemmas as Keys;
 use messages::code::{Display, Side};
 use store::record::Record;
 
-#[derive(Clone, Copy, PartialEq, Eq)]
+#[derive(Clone, Copy, PartialEq, Eq, Debug)]
 pub struct Order {
     // its Order ID
     pub id: u64,

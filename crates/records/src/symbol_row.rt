@@ -7,7 +7,7 @@ use crate::value::Value;
 use store::record::Record;
 
 // The value is held as two plain numbers, since lent memory may hold any.
-#[derive(Clone, Copy, PartialEq, Eq)]
+#[derive(Clone, Copy, PartialEq, Eq, Debug)]
 pub struct SymbolRow {
     // its number
     pub symbol: u64,

@@ -1,8 +1,13 @@
 -- A list cut at the place of a key: what is in front, the record, and what is behind.
-use Rattle.std.proofs.Common.{◌≡◌, ℕ, zero, suc, ◌+◌, ◌<◌, ◌≤◌, true, false, ◌⊎◌, List, [], ◌∷◌, ◌++◌, length, get_or, take, drop, set, is_some, Some, None, Ok, Err, Result, sym, refl, ap, subst, ⊎_elim, add-one, arith}
+use Rattle.std.proofs.Common.{◌≡◌, ℕ, zero, suc, ◌+◌, ◌<◌, ◌≤◌, true, false, ◌⊎◌, List, [], ◌∷◌, ◌++◌, length, get_or, take, drop, set, is_some, Some, None, Option, Ok, Err, Result, sym, refl, ap, subst, ⊎_elim, arith}
+use denote.Bor.{Bor}
 use Rattle.std.specs.List.{slice_get, insert, remove}
+use Rattle.std.specs.Option.{option_copied, option_and_then}
+use Rattle.std.specs.Result.{result_ok}
+use Rattle.std.specs.Slice.{IsItemAt}
 use Rattle.std.proofs.lemmas.List.{take-append-drop, take_more, drop_all, drop-append-le, length-take, length-take-le, set_split}
-use Rattle.std.proofs.lemmas.Option.{slice_get_read}
+use Rattle.std.proofs.lemmas.Grind.{common_steps}
+use Rattle.std.proofs.lemmas.Option.{gets, slice_get_read}
 use Rattle.std.proofs.lemmas.Bool.{le-leb}
 use Rattle.store.specs.Lists.{Rising, lookup, holds, first_from, placed, replaced, without}
 use Rattle.store.proofs.Each.{Absent, Lower, Higher, each-join, each-so, absent-lower, absent-higher}
@@ -11,35 +16,20 @@ use Rattle.row_store.specs.Places.{Stands, Goes, Sought}
 
 module _ {X : Type 0} where
   pub cut : (xs : List X) (i : ℕ) (x : X) → slice_get xs i ≡ Some x → xs ≡ take i xs ++ (x ∷ drop (suc i) xs)
-  cut [] i x e = let z : ◌≡◌ {A = ℕ} 0 1 = cc in absurd (omega arith)
+  cut [] i x e = cc
   cut (y ∷ xs) zero x e = cc
   cut (y ∷ xs) (suc i) x e = ap (λ t. y ∷ t) (cut xs i x e)
 
-  pub within : (xs : List X) (i : ℕ) (x : X) → slice_get xs i ≡ Some x → i < length xs
-  within [] i x e = let z : ◌≡◌ {A = ℕ} 0 1 = cc in absurd (omega arith)
-  within (y ∷ xs) zero x e = omega arith
-  within (y ∷ xs) (suc i) x e = let h = within xs i x e in omega arith
+  -- what a read answers
+  pub read-at : (xs : List X) (i : ℕ) (r : Option (Bor X)) → IsItemAt xs i r → option_copied r ≡ slice_get xs i
+  read-at xs i None h = grind (arith, common_steps, gets, h)
+  read-at xs i (Some x) h = grind (arith, common_steps, gets, h)
 
   nth_drop : (xs : List X) (i : ℕ) → slice_get xs i ≡ slice_get (drop i xs) 0
   nth_drop [] zero = refl
   nth_drop [] (suc i) = refl
   nth_drop (x ∷ xs) zero = refl
   nth_drop (x ∷ xs) (suc i) = nth_drop xs i
-
-  -- what is ahead of a place
-  ahead-cut : (xs : List X) (i : ℕ) (x : X) → slice_get xs i ≡ Some x → drop i xs ≡ x ∷ drop (suc i) xs
-  ahead-cut [] i x e = let z : ◌≡◌ {A = ℕ} 0 1 = cc in absurd (omega arith)
-  ahead-cut (y ∷ xs) zero x e = cc
-  ahead-cut (y ∷ xs) (suc i) x e = ahead-cut xs i x e
-
-  pub ahead-at : (xs : List X) (i : ℕ) (x : X) → slice_get xs i ≡ Some x → drop i xs ≡ x ∷ drop (i + 1) xs
-  ahead-at xs i x e = rw add-one (ahead-cut xs i x e)
-
-  pub ahead_past : (xs : List X) (i : ℕ) → slice_get xs i ≡ None → drop i xs ≡ []
-  ahead_past [] zero e = refl
-  ahead_past [] (suc i) e = refl
-  ahead_past (y ∷ xs) zero e = let z : ◌≡◌ {A = ℕ} 0 1 = cc in absurd (omega arith)
-  ahead_past (y ∷ xs) (suc i) e = ahead_past xs i e
 
 module _ {X : Type 0} (key : X → ℕ) where
   -- one more record is met: its key is lower or higher than the one sought
@@ -99,14 +89,6 @@ module _ {X : Type 0} (key : X → ℕ) where
         let n = nth_drop xs i in
         cc
 
-    -- either way
-    pub from-sought : (r : Result ℕ ℕ) → Sought key k xs r → (r ≡ Ok i) ⊎ (r ≡ Err i) → Rising key xs → first_from key k xs ≡ slice_get xs i
-    from-sought r s w h =
-        ⊎_elim
-        (λ e. from_found (subst (Sought key k xs) e s) h)
-        (λ e. from-missing (subst (Sought key k xs) e s) h)
-        w
-
     pub not-held : Goes key k xs i → Rising key xs → holds key k xs ≡ false
     not-held s h = holds-absent key k xs (absent s h)
 
@@ -124,6 +106,23 @@ module _ {X : Type 0} (key : X → ℕ) where
     pub rising-removed : Stands key k xs i → Rising key xs → Rising key (remove xs i)
     rising-removed s h =
         rising-out key (take i xs) s.item (drop (suc i) xs) (subst (Rising key) (cut xs i s.item s.here) h)
+
+  module _ (k : ℕ) (xs : List X) where
+    -- what the calls read from a search's answer
+    pub looked-up : (r : Result ℕ ℕ) → Sought key k xs r → Rising key xs → lookup key k xs ≡ option_and_then (slice_get xs) (result_ok r)
+    looked-up (Ok j) s h = found k xs j s h
+    looked-up (Err j) s h = missing k xs j s h
+
+    pub place-found : (r : Result ℕ ℕ) (i : ℕ) → Some i ≡ result_ok r → Sought key k xs r → Stands key k xs i
+    place-found (Ok j) i e s = let same : j ≡ i = cc in subst (Stands key k xs) same s
+    place-found (Err j) i e s = cc
+
+    pub from-sought : (r : Result ℕ ℕ) (i : ℕ) → (r ≡ Ok i) ⊎ (r ≡ Err i) → Sought key k xs r → Rising key xs → first_from key k xs ≡ slice_get xs i
+    from-sought r i w s h =
+        ⊎_elim
+        (λ e. from_found k xs i (subst (Sought key k xs) e s) h)
+        (λ e. from-missing k xs i (subst (Sought key k xs) e s) h)
+        w
 
   module _ (r : X) (xs : List X) (i : ℕ) where
     pub replaced-found : Stands key (key r) xs i → Rising key xs → replaced key r xs ≡ set xs i r

@@ -40,22 +40,15 @@ impl<'a, R: Record> Store<R> for RowStore<'a, R> {
     }
 
     fn insert(&mut self, item: R) -> Result<(), InsertRefusal> {
-        let mut count = self.count;
-        let answer = insert_row(self.rows, &mut count, item);
-        self.count = count;
-        answer
+        insert_row(self.rows, &mut self.count, item)
     }
 
     fn replace(&mut self, item: R) -> Result<(), ReplaceRefusal> {
-        let count = self.count;
-        replace_row(self.rows, count, item)
+        replace_row(self.rows, self.count, item)
     }
 
     fn remove(&mut self, key: u64) -> Option<R> {
-        let mut count = self.count;
-        let answer = remove_row(self.rows, &mut count, key);
-        self.count = count;
-        answer
+        remove_row(self.rows, &mut self.count, key)
     }
 
     fn empty(&mut self) {
@@ -63,9 +56,6 @@ impl<'a, R: Record> Store<R> for RowStore<'a, R> {
     }
 
     fn sweep<P: Pick<R>, M: Measure<R>>(&mut self, pick: &P, measure: &M) -> M::Out {
-        let mut count = self.count;
-        let answer = sweep_rows(self.rows, &mut count, pick, measure);
-        self.count = count;
-        answer
+        sweep_rows(self.rows, &mut self.count, pick, measure)
     }
 }

@@ -1,6 +1,5 @@
 // Where a record stands among the rows, or would.
 ghost use Rattle.std.specs.Prelude.{◌≡◌, length, take};
-ghost use Rattle.std.specs.List.{slice_get};
 ghost use Rattle.store.specs.Lists.{Rising, lookup, first_from};
 ghost use Rattle.store.specs.Visits.{Visited, Covers};
 ghost use Rattle.row_store.specs.Places.{Sought};
@@ -13,20 +12,17 @@ use store::visit::Visit;
 pub(crate) fn held<R>(rows: &[R], count: usize) -> &[R]
     ensures { result.now ≡ take count rows.now }
 {
-    if count < rows.len() {
-        &rows[0..count]
-    } else {
-        rows
-    }
+    &rows[..count.min(rows.len())]
 }
 
-// The place of the record with the key, or the one where it would go.
+// The place of the record with the key, or the one where it would go. A row store searches from the first record to the last, and goes on to
+// the last where the key is not held: so this is no binary search, though the keys rise.
 pub(crate) fn seek<R: Record>(rows: &[R], key: u64) -> Result<usize, usize>
     ensures { Sought R.Record.key key rows.now result }
 {
     let mut place = 0;
-    for i in 0..rows.len() {
-        let here = rows[i].key();
+    for (i, row) in rows.iter().enumerate() {
+        let here = row.key();
         if here == key {
             return Ok(i);
         }
@@ -37,30 +33,18 @@ pub(crate) fn seek<R: Record>(rows: &[R], key: u64) -> Result<usize, usize>
     Err(place)
 }
 
-fn row_at<R: Record>(rows: &[R], place: usize) -> Option<R>
-    ensures { result ≡ slice_get rows.now place }
-{
-    if place < rows.len() {
-        Some(rows[place])
-    } else {
-        None
-    }
-}
-
 pub(crate) fn find_row<R: Record>(rows: &[R], key: u64) -> Option<R>
     ensures { Rising R.Record.key rows.now → result ≡ lookup R.Record.key key rows.now }
 {
-    match seek(rows, key) {
-        Ok(place) => row_at(rows, place),
-        Err(_) => None,
-    }
+    let place = seek(rows, key).ok()?;
+    rows.get(place).copied()
 }
 
 pub(crate) fn row_from<R: Record>(rows: &[R], key: u64) -> Option<R>
     ensures { Rising R.Record.key rows.now → result ≡ first_from R.Record.key key rows.now }
 {
     match seek(rows, key) {
-        Ok(place) | Err(place) => row_at(rows, place),
+        Ok(place) | Err(place) => rows.get(place).copied(),
     }
 }
 
@@ -75,11 +59,9 @@ pub(crate) fn counted<R: Record>(rows: &[R]) -> u64
 pub(crate) fn visit_row<R: Record>(rows: &[R], place: u64) -> Option<Visit<R>>
     ensures { Visited (from rows.now) place result }
 {
-    match row_at(rows, place as usize) {
-        Some(record) => Some(Visit {
-            record,
-            next: Some(place + 1),
-        }),
-        None => None,
-    }
+    let record = *rows.get(place as usize)?;
+    Some(Visit {
+        record,
+        next: Some(place + 1),
+    })
 }

@@ -1,22 +1,22 @@
-// Taking a record in among the rows, and taking one out.
-ghost use Rattle.std.specs.Prelude.{◌≡◌, ◌+◌, ◌-◌, ◌<◌, ◌≤◌, length, take};
-ghost use Rattle.std.specs.List.{insert, remove};
+// Moving the rows from a place on up by one, or down by one.
+//
+// This is `copy_within` at two shapes. Tried in their place it is too slow: inlined behind the search it slows the search down, and adds and removes
+// take up to 11 parts in 100 longer, behind a front row up to 69.
+ghost use Rattle.std.specs.Prelude.{◌≡◌, ◌+◌, ◌<◌, ◌≤◌, length};
+ghost use Rattle.std.specs.List.{copy_within};
 
-// Moves the rows from the place on up by one, and puts the record there.
-pub(crate) fn put_in<R: Copy>(rows: &mut [R], place: usize, count: usize, item: R)
+pub(crate) fn move_up<R: Copy>(rows: &mut [R], place: usize, count: usize)
     requires { (place ≤ count) × (count < length rows.old) }
-    ensures { take (count + 1) rows.new ≡ insert (take count rows.old) place item }
+    ensures { rows.new ≡ copy_within rows.old place count (place + 1) }
 {
     for i in (place..count).rev() {
         rows[i + 1] = rows[i];
     }
-    rows[place] = item;
 }
 
-// Moves the rows behind the place down by one.
-pub(crate) fn take_out<R: Copy>(rows: &mut [R], place: usize, count: usize)
+pub(crate) fn move_down<R: Copy>(rows: &mut [R], place: usize, count: usize)
     requires { (place < count) × (count ≤ length rows.old) }
-    ensures { take (count - 1) rows.new ≡ remove (take count rows.old) place }
+    ensures { rows.new ≡ copy_within rows.old (place + 1) count place }
 {
     for i in place..count - 1 {
         rows[i] = rows[i + 1];

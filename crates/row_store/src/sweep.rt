@@ -1,25 +1,23 @@
 // Taking out every record that a test picks, in one pass.
-ghost use Rattle.std.specs.Prelude.{◌≡◌, map};
+ghost use Rattle.std.specs.Prelude.{map};
 ghost use Rattle.store.specs.Lists.{those};
 ghost use Rattle.store.specs.Models.{sweeping};
 ghost use Rattle.tally.specs.Joining.{joined_all};
-ghost use Rattle.row_store.specs.Rows.{InOrder, model_of};
+ghost use Rattle.row_store.specs.Rows.{InOrder, Changed};
 
 use store::pick::Pick;
 use store::record::Record;
 use tally::measure::Measure;
 use tally::tally::Tally;
 
-// The rows that stay move down over those that go.
+// The rows that stay move down over those that go, by their places: a slice has no `retain`, and each row is read before it is written over.
 pub(crate) fn sweep_rows<R: Record, P: Pick<R>, M: Measure<R>>(
     rows: &mut [R],
     count: &mut usize,
     pick: &P,
     measure: &M,
 ) -> M::Out
-    ensures says { result ≡ joined_all M.Out.Tally.none M.Out.Tally.joining (map (M.Measure.given measure.now) (those (P.Pick.picked pick.now) (model_of count.old rows.old).rows)) }
-    ensures leaves { model_of count.new rows.new ≡ sweeping (P.Pick.picked pick.now) (model_of count.old rows.old) }
-    ensures still { InOrder R.Record.key count.old rows.old → InOrder R.Record.key count.new rows.new }
+    ensures { InOrder R.Record.key count.old rows.old → Changed R.Record.key (λ m. joined_all M.Out.Tally.none M.Out.Tally.joining (map (M.Measure.given measure.now) (those (P.Pick.picked pick.now) m.rows))) (sweeping (P.Pick.picked pick.now)) result count.old count.new rows.old rows.new }
 {
     let n = (*count).min(rows.len());
     let mut total = M::Out::empty();

@@ -1,5 +1,5 @@
 -- What generic code over any store comes to.
-use Rattle.std.proofs.Common.{◌≡◌, ℕ, false, eqb, leb, List, [], ◌∷◌, length, Ok, ap, ⊎_elim, arith}
+use Rattle.std.proofs.Common.{◌≡◌, ℕ, false, eqb, leb, List, [], ◌∷◌, length, Ok, ap, ⊎_elim}
 use Rattle.std.proofs.lemmas.Bool.{cases_Bool, eqb-false}
 use Rattle.store.specs.Clients.{inserted_found}
 use Rattle.store.specs.Lists.{lookup, holds}
@@ -12,19 +12,21 @@ module _ {X : Type 0} (key : X → ℕ) where
   absent-unheld k [] h = tt
   absent-unheld k (x ∷ xs) h =
       ⊎_elim
-      (λ e. let z = rw e at h in let y : ◌≡◌ {A = ℕ} 0 1 = cc in absurd (omega arith))
+      (λ e. let z = rw e at h in cc)
       (λ e. (eqb-false (key x) k e, absent-unheld k xs (rw e at h)))
       (cases_Bool (eqb (key x) k))
 
-  pub found-inserted : (r : X) (m : Model X) (u : Unit {0}) → Ok u ≡ insert_says key r m → Ok (lookup key (key r) (inserted key r m).rows) ≡ inserted_found key r m
-  found-inserted r m u e =
+  -- an accepted insert: the key was not held, and there was room
+  pub accepted : (r : X) (m : Model X) (u : Unit {0}) → Ok u ≡ insert_says key r m → (holds key (key r) m.rows ≡ false) × (leb m.limit (length m.rows) ≡ false)
+  accepted r m u e =
       ⊎_elim
-      (λ h. let z = rw h at e in let y : ◌≡◌ {A = ℕ} 0 1 = cc in absurd (omega arith))
+      (λ h. let z = rw h at e in cc)
       (λ h.
       let f = rw h at e in
-      rw h
-      (⊎_elim
-      (λ l. let z = rw l at f in let y : ◌≡◌ {A = ℕ} 0 1 = cc in absurd (omega arith))
-      (λ l. rw l (ap Ok (lookup-placed key r m.rows (absent-unheld (key r) m.rows h))))
-      (cases_Bool (leb m.limit (length m.rows)))))
+      ⊎_elim (λ l. let z = rw l at f in cc) (λ l. (h, l)) (cases_Bool (leb m.limit (length m.rows))))
       (cases_Bool (holds key (key r) m.rows))
+
+  pub found-inserted : (r : X) (m : Model X) (u : Unit {0}) → Ok u ≡ insert_says key r m → Ok (lookup key (key r) (inserted key r m).rows) ≡ inserted_found key r m
+  found-inserted r m u e =
+      let a = accepted r m u e in
+      rw (a.0, a.1) (ap Ok (lookup-placed key r m.rows (absent-unheld (key r) m.rows a.0)))

@@ -1,5 +1,5 @@
 -- Lists of records by key, cut where a key stands or would stand: the part in front, the record, the part behind.
-use Rattle.std.proofs.Common.{◌≡◌, ℕ, ◌<◌, ◌≤◌, true, false, List, [], ◌∷◌, ◌++◌, is_some, Some, None, refl, ap, ◌∙◌, arith}
+use Rattle.std.proofs.Common.{◌≡◌, ℕ, ◌<◌, ◌≤◌, false, List, [], ◌∷◌, ◌++◌, is_some, Some, None, refl, ap, ◌∙◌, arith}
 use Rattle.std.proofs.lemmas.Bool.{ne_eqb, eq-eqb, lt-ltb, le-ltb, le-leb, lt-leb}
 use Rattle.store.specs.Lists.{Rising, lookup, holds, first_from, placed, replaced, without}
 use Rattle.store.proofs.Each.{Absent, Lower, Higher, each-join, each-front, each_back}
@@ -15,9 +15,6 @@ module _ {X : Type 0} (key : X → ℕ) where
   pub lookup-at : (front : List X) (x : X) (back : List X) → Absent key (key x) front → lookup key (key x) (front ++ (x ∷ back)) ≡ Some x
   lookup-at [] x back h = rw (eq-eqb (key x) (key x) refl) refl
   lookup-at (y ∷ front) x back h = rw (ne_eqb (key y) (key x) h.0) (lookup-at front x back h.1)
-
-  pub holds_at : (front : List X) (x : X) (back : List X) → Absent key (key x) front → holds key (key x) (front ++ (x ∷ back)) ≡ true
-  holds_at front x back h = ap is_some (lookup-at front x back h)
 
   pub without-absent : (k : ℕ) (xs : List X) → Absent key k xs → without key k xs ≡ xs
   without-absent k [] h = refl

@@ -1,5 +1,5 @@
 -- The rules of a store hold of its definitions.
-use Rattle.std.proofs.Common.{◌≡◌, ℕ, suc, ◌<◌, ◌≤◌, Bool, true, false, leb, List, [], ◌∷◌, length, is_some, Some, None, Ok, Option, sym, refl, ap, ◌∙◌, ⊎_elim, arith}
+use Rattle.std.proofs.Common.{◌≡◌, ℕ, suc, ◌<◌, ◌≤◌, Bool, true, false, leb, List, [], ◌∷◌, length, is_some, Some, None, Ok, sym, refl, ap, ◌∙◌, ⊎_elim, arith}
 use Rattle.std.proofs.lemmas.Bool.{eq-eqb, ne_eqb, le-leb, lt-leb, leb-true, leb-false, cases_eq, cases_lt, cases_Bool, cases_order}
 use Rattle.store.specs.Lists.{Each, Rising, lookup, holds, first_from, replaced, without, others}
 use Rattle.store.specs.Models.{Model, insert_says, inserted, replacing}
@@ -7,13 +7,10 @@ use Rattle.store.specs.Rules.{Stored, Least, Rules}
 use Rattle.store.proofs.Each.{Absent, each-so, absent-higher, higher-more}
 use Rattle.store.proofs.Keyed.{lookup_absent, replaced-absent}
 use Rattle.store.proofs.Placed.{rising-placed, length-placed}
-use Rattle.store.proofs.Inserting.{absent-unheld}
+use Rattle.store.proofs.Inserting.{absent-unheld, accepted}
 use Rattle.store.proofs.Lookups.{lookup-here, lookup-later, lookup-inserted, lookup-placed-other, lookup-replaced, lookup-replaced-other, lookup-without-other, lookup-others}
 use Rattle.store.proofs.Default.{same-model}
 use Rattle.store.proofs.Sweeps.{each-others}
-
-none-some : {X : Type 0} (o : Option X) (x : X) → o ≡ None → o ≡ Some x → ⊥
-none-some o x n s = let z : ◌≡◌ {A = ℕ} 0 1 = cc in omega arith
 
 module _ {X : Type 0} (key : X → ℕ) where
   absent_none : (k : ℕ) (xs : List X) → lookup key k xs ≡ None → Absent key k xs
@@ -21,7 +18,7 @@ module _ {X : Type 0} (key : X → ℕ) where
 
   -- what is found under a key has that key, and is one of the list
   found-key : (k : ℕ) (xs : List X) (x : X) → lookup key k xs ≡ Some x → key x ≡ k
-  found-key k [] x e = absurd (none-some None x refl e)
+  found-key k [] x e = cc
   found-key k (y ∷ ys) x e =
       ⊎_elim
       (λ h. let s : y ≡ x = (let f = lookup-here key k y ys h in cc) in sym (ap key s) ∙ h)
@@ -29,7 +26,7 @@ module _ {X : Type 0} (key : X → ℕ) where
       (cases_eq (key y) k)
 
   found-each : (P : X → Type 0) (k : ℕ) (xs : List X) (x : X) → Each P xs → lookup key k xs ≡ Some x → P x
-  found-each P k [] x h e = absurd (none-some None x refl e)
+  found-each P k [] x h e = cc
   found-each P k (y ∷ ys) x h e =
       ⊎_elim
       (λ m. let s : y ≡ x = (let f = lookup-here key k y ys m in cc) in rw s at h.0)
@@ -97,7 +94,7 @@ module _ {X : Type 0} (key : X → ℕ) where
       (cases_eq (key y) (key x))
 
   from_found : (xs : List X) (k : ℕ) (r : X) → Rising key xs → first_from key k xs ≡ Some r → Least key k xs r
-  from_found [] k r h e = absurd (none-some None r refl e)
+  from_found [] k r h e = cc
   from_found (y ∷ ys) k r h e =
       ⊎_elim
       (λ t.
@@ -124,7 +121,7 @@ module _ {X : Type 0} (key : X → ℕ) where
   from-none [] k e = tt
   from-none (y ∷ ys) k e =
       ⊎_elim
-      (λ t. absurd (none-some (first_from key k (y ∷ ys)) y e (rw t refl)))
+      (λ t. let z = rw t at e in cc)
       (λ t. (leb-false k (key y) t, from-none ys k (rw t at e)))
       (cases_Bool (leb k (key y)))
 
@@ -132,7 +129,9 @@ module _ {X : Type 0} (key : X → ℕ) where
   first-first : (x : X) (xs : List X) (y : X) (ys : List X) → Rising key (y ∷ ys) → ((k : ℕ) → lookup key k (x ∷ xs) ≡ lookup key k (y ∷ ys)) → key x < key y → ⊥
   first-first x xs y ys h same l =
       let gone = lookup_absent key (key x) (y ∷ ys) ((λ e. omega arith), absent-higher key (key x) ys (higher-more key (key x) (key y) ys l h.0)) in
-      none-some (lookup key (key x) (x ∷ xs)) x (same (key x) ∙ gone) (lookup-here key (key x) x xs refl)
+      let here = lookup-here key (key x) x xs refl in
+      let e = same (key x) in
+      cc
 
   same_rest : (x : X) (xs ys : List X) → Rising key (x ∷ xs) → Rising key (x ∷ ys) → ((k : ℕ) → lookup key k (x ∷ xs) ≡ lookup key k (x ∷ ys)) → (k : ℕ) → lookup key k xs ≡ lookup key k ys
   same_rest x xs ys h g same k =
@@ -144,8 +143,8 @@ module _ {X : Type 0} (key : X → ℕ) where
 
   told : (xs ys : List X) → Rising key xs → Rising key ys → ((k : ℕ) → lookup key k xs ≡ lookup key k ys) → xs ≡ ys
   told [] [] h g same = refl
-  told [] (y ∷ ys) h g same = absurd (none-some (lookup key (key y) (y ∷ ys)) y (sym (same (key y))) (lookup-here key (key y) y ys refl))
-  told (x ∷ xs) [] h g same = absurd (none-some (lookup key (key x) (x ∷ xs)) x (same (key x)) (lookup-here key (key x) x xs refl))
+  told [] (y ∷ ys) h g same = let e = same (key y) in let here = lookup-here key (key y) y ys refl in cc
+  told (x ∷ xs) [] h g same = let e = same (key x) in let here = lookup-here key (key x) x xs refl in cc
   told (x ∷ xs) (y ∷ ys) h g same =
       ⊎_elim
       (λ e.
@@ -162,24 +161,17 @@ module _ {X : Type 0} (key : X → ℕ) where
 
   insert-stores : (m : Model X) (r : X) → Rising key m.rows → insert_says key r m ≡ Ok tt → Stored key r m (inserted key r m) 1
   insert-stores m r up e =
-      ⊎_elim
-      (λ h. let z = rw h at e in let y : ◌≡◌ {A = ℕ} 0 1 = cc in absurd (omega arith))
-      (λ h.
-      let f = rw h at e in
-      rw h
-      (⊎_elim
-      (λ l. let z = rw l at f in let y : ◌≡◌ {A = ℕ} 0 1 = cc in absurd (omega arith))
-      (λ l. rw l (record {
-        found = lookup-inserted key r m.rows h;
+      let a = accepted key r m tt (sym e) in
+      rw (a.0, a.1)
+      (record {
+        found = lookup-inserted key r m.rows a.0;
         rest = record {
           others = λ j n. lookup-placed-other key j r m.rows (λ s. n (sym s));
-          rising = rising-placed key r m.rows (absent-unheld key (key r) m.rows h) up;
+          rising = rising-placed key r m.rows (absent-unheld key (key r) m.rows a.0) up;
           limit = refl;
         };
         count = length-placed key r m.rows ∙ (omega arith);
-      }))
-      (cases_Bool (leb m.limit (length m.rows)))))
-      (cases_Bool (holds key (key r) m.rows))
+      })
 
   pub rules : Rules key
   rules = record {

@@ -1,10 +1,10 @@
 -- Records that a test picks, and the others.
-use Rattle.std.proofs.Common.{◌≡◌, ℕ, ◌<◌, Bool, true, false, ltb, List, [], ◌∷◌, ◌++◌, map, sym, refl, ap, ◌∙◌, ⊎_elim}
+use Rattle.std.proofs.Common.{◌≡◌, ℕ, ◌<◌, Bool, true, false, ltb, List, [], ◌∷◌, ◌++◌, map, sym, refl, ap, ◌∙◌, ⊎_elim, append-nil}
 use mathlib.Core.List.Permᴰ
 use mathlib.Core.List.{Permᴰ}
 use Rattle.std.proofs.lemmas.Bool.{cases_Bool}
 use Rattle.tally.specs.Joining.{joined_all}
-use Rattle.tally.proofs.Laws.{joined-permuted, neutral-right}
+use Rattle.tally.proofs.Laws.{joined-more, joined-permuted, neutral-right}
 use Rattle.store.specs.Lists.{Each, Rising, placed, those, others}
 
 module _ {X : Type 0} (p : X → Bool) where
@@ -26,6 +26,19 @@ module _ {X : Type 0} (p : X → Bool) where
   others-append (x ∷ xs) ys =
       ⊎_elim (λ e. rw e (others-append xs ys)) (λ e. rw e (ap (λ t. x ∷ t) (others-append xs ys))) (cases_Bool (p x))
 
+  -- one record more, at the end
+  pub others-more_picked : (xs : List X) (x : X) → p x ≡ true → others p (xs ++ (x ∷ [])) ≡ others p xs
+  others-more_picked xs x e = others-append xs (x ∷ []) ∙ ap (λ z. others p xs ++ z) (rw e refl) ∙ append-nil (others p xs)
+
+  pub others-more_kept : (xs : List X) (x : X) → p x ≡ false → others p (xs ++ (x ∷ [])) ≡ others p xs ++ (x ∷ [])
+  others-more_kept xs x e = others-append xs (x ∷ []) ∙ ap (λ z. others p xs ++ z) (rw e refl)
+
+  pub those-more_picked : (xs : List X) (x : X) → p x ≡ true → those p (xs ++ (x ∷ [])) ≡ those p xs ++ (x ∷ [])
+  those-more_picked xs x e = those-append xs (x ∷ []) ∙ ap (λ z. those p xs ++ z) (rw e refl)
+
+  pub those-more_kept : (xs : List X) (x : X) → p x ≡ false → those p (xs ++ (x ∷ [])) ≡ those p xs
+  those-more_kept xs x e = those-append xs (x ∷ []) ∙ ap (λ z. those p xs ++ z) (rw e refl) ∙ append-nil (those p xs)
+
   pub each-others : (P : X → Type 0) (xs : List X) → Each P xs → Each P (others p xs)
   each-others P [] h = tt
   each-others P (x ∷ xs) h =
@@ -39,9 +52,6 @@ module _ {X : Type 0} (p : X → Bool) where
       (λ e. rw e (rising-others key xs h.1))
       (λ e. rw e (each-others (λ y. key x < key y) xs h.0, rising-others key xs h.1))
       (cases_Bool (p x))
-
-  pub those-picked : (x : X) (xs : List X) → p x ≡ true → those p (x ∷ xs) ≡ x ∷ those p xs
-  those-picked x xs e = rw e refl
 
   -- a picked record put in is one more of those, and none of the others
   pub those-placed : (key : X → ℕ) (r : X) (xs : List X) → p r ≡ true → Permᴰ (those p (placed key r xs)) (r ∷ those p xs)
@@ -76,6 +86,15 @@ module _ {X M : Type 0} (p : X → Bool) (given : X → M) (none : M) (joining :
   pub takings-none : (t : M) (xs : List X) → Each (λ x. p x ≡ false) xs → joining t (takings xs) ≡ t
   takings-none t xs h =
       ap (λ zs. joining t (joined_all none joining (map given zs))) (those-none p xs h) ∙ neutral-right none joining associative commutative neutral t
+
+  -- one record more, at the end
+  pub takings-more_picked : (xs : List X) (x : X) → p x ≡ true → joining (takings xs) (given x) ≡ takings (xs ++ (x ∷ []))
+  takings-more_picked xs x e =
+      joined-more none joining associative commutative neutral given (those p xs) x
+      ∙ ap (λ zs. joined_all none joining (map given zs)) (sym (those-more_picked p xs x e))
+
+  pub takings-more_kept : (xs : List X) (x : X) → p x ≡ false → takings xs ≡ takings (xs ++ (x ∷ []))
+  takings-more_kept xs x e = ap (λ zs. joined_all none joining (map given zs)) (sym (those-more_kept p xs x e))
 
   -- one picked record joined, the others are still to join
   pub takings-placed : (key : X → ℕ) (t : M) (r : X) (xs : List X) → p r ≡ true → joining (joining t (given r)) (takings xs) ≡ joining t (takings (placed key r xs))

@@ -1,5 +1,5 @@
 // What any store does by its meaning alone.
-ghost use Rattle.std.specs.Prelude.{◌≡◌, min};
+ghost use Rattle.std.specs.Prelude.{◌≡◌};
 ghost use Rattle.store.specs.Clients.{inserted_found, Listed};
 
 use crate::record::{Record, next_key};
@@ -13,34 +13,22 @@ pub fn insert_then_find<R: Record, S: Store<R>>(
 ) -> Result<Option<R>, InsertRefusal>
     ensures { S.Store.ready store.old → result ≡ inserted_found R.Record.key item (S.Store.model store.old) }
 {
-    match store.insert(item) {
-        Ok(()) => Ok(store.find(item.key())),
-        Err(refusal) => Err(refusal),
-    }
+    store.insert(item)?;
+    Ok(store.find(item.key()))
 }
 
 // Writes the records found by going from key to key into a row, and answers how many: the list, or as much of it as fits.
 pub fn list_into<R: Record, S: Store<R>>(store: &S, row: &mut [R]) -> usize
     ensures { S.Store.ready store.now → Listed (S.Store.model store.now).rows row.old row.new result }
 {
-    let most = at_most(store.count(), row.len());
+    let most = row.len().min(store.count() as usize);
     let mut key = 0;
-    for filled in 0..most {
+    for (filled, place) in row[..most].iter_mut().enumerate() {
         let Some(item) = store.from(key) else {
             return filled;
         };
-        row[filled] = item;
+        *place = item;
         key = next_key(&item);
     }
     most
-}
-
-fn at_most(count: u64, room: usize) -> usize
-    ensures { result ≡ min count room }
-{
-    if count < room as u64 {
-        count as usize
-    } else {
-        room
-    }
 }

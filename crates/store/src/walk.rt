@@ -26,8 +26,7 @@ fn walk_on<R: Record, S: Store<R>, M: Measure<R>>(
 {
     let mut met = M::Out::empty();
     let mut place = place;
-    let mut left = count;
-    while left > 0 {
+    for _turn in 0..count {
         let Some(visit) = store.visit(place) else {
             return met;
         };
@@ -36,7 +35,6 @@ fn walk_on<R: Record, S: Store<R>, M: Measure<R>>(
             return met;
         };
         place = next;
-        left -= 1;
     }
     met
 }

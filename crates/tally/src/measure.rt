@@ -1,4 +1,6 @@
 // What one record gives to a tally.
+//
+// A trait and no closure: what is answered is the function `given` joined over the list in every order, and a closure's `post` is a mere relation.
 ghost use Rattle.std.specs.Prelude.{◌≡◌};
 
 use crate::tally::Tally;

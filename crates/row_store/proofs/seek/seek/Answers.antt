@@ -1,19 +1,7 @@
-use Rattle.std.proofs.Common.{◌+◌, ◌<◌, drop, sym, refl, ◌∙◌, subst, arith}
-use Rattle.std.proofs.lemmas.List.{take_all}
-use Rattle.std.proofs.lemmas.Option.{slice_get_read}
-use Rattle.store.proofs.Each.{Higher}
+use Rattle.std.proofs.Common.{◌+◌, ◌<◌, arith}
 use Rattle.row_store.proofs.Places.{lower-more, higher-more, none-behind}
 use Rattle.row_store.proofs.seek.seek.Goals as goal
 use Rattle.row_store.proofs.seek.seek.Goals.{then-here-key-2, else-here-key-2}
-
-pub returns-then-here-key : goal.returns-then-here-key
-returns-then-here-key g c =
-    record {
-      inside = c.loop-i-test.true;
-      item = c.index-rows-i.result;
-      here = slice_get_read c.args.rows.now _ c.loop-i.i c.index-rows-i.result refl c.loop-i-test.true c.index-rows-i.is;
-      same = sym c.key-here.ensures ∙ c.if-here-key.true;
-    }
 
 pub loop-i-preserved : goal.loop-i-preserved
 loop-i-preserved g c =
@@ -39,13 +27,3 @@ loop-i-preserved g c =
             λ h. higher-more key k xs i c.loop-i.place x c.loop-i-test.true c.loop-i.invariant.0 c.index-rows-i.is high (c.loop-i.invariant.2 h),
           )
     ]
-
-pub returns : goal.returns
-returns g c =
-    let key = g.R.Record.key in
-    let xs = c.args.rows.now in
-    record {
-      inside = omega arith;
-      lower = c.loop-i.invariant.1;
-      higher = λ h. subst (λ ys. Higher key c.args.key (drop c.loop-i.place ys)) (take_all c.loop-i.i xs c.loop-i-test.false) (c.loop-i.invariant.2 h);
-    }

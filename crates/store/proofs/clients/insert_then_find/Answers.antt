@@ -1,9 +1,9 @@
 use Rattle.store.proofs.Inserting.{found-inserted}
 use Rattle.store.proofs.clients.insert_then_find.Goals as goal
 
-pub returns-in-Ok : goal.returns-in-Ok
-returns-in-Ok g c ready =
-    let put = c.in-Ok.ensures in
+pub returns : goal.returns
+returns g c ready =
+    let put = c.in_ok-insert.ensures in
     let found = c.find.ensures (put.still ready) in
     let holds = put.leaves ready in
     let key = c.key.ensures in

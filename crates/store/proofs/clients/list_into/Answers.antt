@@ -1,37 +1,25 @@
-use Rattle.std.proofs.Common.{◌≡◌, ℕ, ◌<◌, ◌∷◌, length, sym, ap, ◌∙◌, arith}
-use Rattle.store.proofs.Listing.{listing-starts, listing-next, listing-on, listing-ends}
+use Rattle.std.proofs.Common.{arith, length-take}
+use Rattle.store.proofs.Listing.{listing-starts, listing-on, listed_more, listing-ends}
 use Rattle.store.proofs.clients.list_into.Goals as goal
 
 pub loop-filled-init : goal.loop-filled-init
-loop-filled-init g c ready = listing-starts g.R.Record.key g.met.R.Record.narrow (g.S.Store.model c.args.store.now) c.args.row.now
+loop-filled-init g c ready = listing-starts g.R.Record.key g.met.R.Record.narrow (g.S.Store.model c.args.store.now) _
 
 pub loop-filled-preserved : goal.loop-filled-preserved
 loop-filled-preserved g c ready =
-    let inv = c.loop-filled.invariant ready in
     let counts = c.count.ensures.says ready in
-    let most = c.at_most-most.ensures in
-    let turns : c.loop-filled.filled < length (g.S.Store.model c.args.store.now).rows = omega arith in
-    let room : c.loop-filled.filled < length c.loop-filled.row = omega arith in
-    let next = listing-next g.R.Record.key g.met.R.Record.narrow (g.S.Store.model c.args.store.now) c.args.row.now c.loop-filled.row c.loop-filled.key c.loop-filled.filled inv turns in
-    let item : c.in-Some.item ≡ next.first = let a = c.in-Some.ensures ready in let b = next.found in cc in
-    let up = c.next_key-key.ensures in
-    listing-on g.R.Record.key g.met.R.Record.narrow (g.S.Store.model c.args.store.now) c.args.row.now c.loop-filled.row c.loop-filled.key c.loop-filled.filled inv
-    (c.count.ensures.rising ready) room c.in-Some.item next.rest (next.split ∙ ap (λ z. z ∷ next.rest) (sym item)) c.next_key-key.result (omega arith) (λ h. omega arith)
+    let size = length-take c.min-most.result c.args.row.now in
+    listing-on g.R.Record.key g.met.R.Record.narrow (g.S.Store.model c.args.store.now) _ _ _ (c.loop-filled.invariant ready) (omega arith)
+    (c.count.ensures.rising ready) (omega arith) c.in-Some.item (c.in-Some.ensures ready) c.next_key-key.result c.next_key-key.ensures
 
 pub returns-in_default : goal.returns-in_default
 returns-in_default g c ready =
-    let inv = c.loop-filled.invariant ready in
     let counts = c.count.ensures.says ready in
-    let most = c.at_most-most.ensures in
-    let turns : c.loop-filled.filled < length (g.S.Store.model c.args.store.now).rows = omega arith in
-    let next = listing-next g.R.Record.key g.met.R.Record.narrow (g.S.Store.model c.args.store.now) c.args.row.now c.loop-filled.row c.loop-filled.key c.loop-filled.filled inv turns in
-    let z : ◌≡◌ {A = ℕ} 0 1 = let a = c.in_default.ensures ready in let b = next.found in cc in
-    absurd (omega arith)
+    let size = length-take c.min-most.result c.args.row.now in
+    absurd (listed_more g.R.Record.key g.met.R.Record.narrow (g.S.Store.model c.args.store.now) _ _ _ (c.loop-filled.invariant ready) (omega arith) (c.in_default.ensures ready))
 
 pub returns : goal.returns
 returns g c ready =
-    let done : c.loop-filled.filled ≡ c.at_most-most.result = omega arith in
     let counts = c.count.ensures.says ready in
-    let most = c.at_most-most.ensures in
-    listing-ends g.R.Record.key g.met.R.Record.narrow (g.S.Store.model c.args.store.now) c.args.row.now c.loop-filled.row c.loop-filled.key c.at_most-most.result
-    (rw done at (c.loop-filled.invariant ready)) (omega arith)
+    let size = length-take c.min-most.result c.args.row.now in
+    listing-ends g.R.Record.key (g.S.Store.model c.args.store.now) c.args.row.now _ c.loop-filled.key c.min-most.result c.loop-filled.filled (omega arith) (omega arith) (omega arith) (c.loop-filled.invariant ready)

@@ -1,4 +1,3 @@
-use Rattle.std.proofs.Common.{List}
 use Rattle.store.proofs.Default.{SweptTo}
 use Rattle.store.proofs.store.Store.sweep.Given as goal
 
@@ -6,6 +5,5 @@ abbrev pub invariant-loop-turn : goal.invariant-loop-turn
 invariant-loop-turn g l =
     g.Self.Store.ready l.initial.self
     → g.Self.Store.ready l.self
-    × ((done : List g.row.R.Denot) × ((coming : List g.row.R.Denot)
     × SweptTo g.R.Record.key (g.P.Pick.picked l.pick) (g.M.Measure.given l.measure) g.M.Out.Tally.none g.M.Out.Tally.joining
-    (g.Self.Store.model l.initial.self) (g.Self.Store.model l.self) done coming l.swept l.key l._turn))
+    (g.Self.Store.model l.initial.self) (g.Self.Store.model l.self) l.swept l.key l._turn
