@@ -22,6 +22,7 @@ impl Field for Number {
 
     fn scan(self, line: &[u8]) -> Result<u64, u8> {
         let mut value = 0;
+        // By place, since a fault names it.
         for place in 0..self.count {
             let Some(digit) = self.digit(line, place) else {
                 return Err(place);

@@ -25,6 +25,7 @@ impl Field for Text {
     fn scan(self, line: &[u8]) -> Result<u64, u8> {
         let mut value = 0;
         let mut spaced = false;
+        // By place, since a fault names it.
         for place in 0..self.width {
             let Some(byte) = self.byte(line, place, spaced) else {
                 return Err(place);

@@ -1,5 +1,5 @@
 use Rattle.std.proofs.Common.{◌≡◌, ◌+◌, ◌-◌, length, sym, pow-suc, div-one, add-one, arith}
-use native.Mathlib.Nat.{div-div-eq-div-mul, pow-zero, sub-zero}
+use native.Mathlib.Nat.{div-div-eq-div-mul, pow-zero}
 use Rattle.std.proofs.lemmas.List.{append-nil}
 use Rattle.std.proofs.Math.Seq.{take-length}
 use Rattle.layout.proofs.Writing.{digit_bytes-none, digits_before}
@@ -19,8 +19,3 @@ loop-place-preserved c =
           (digits_before c.args.part.now c.args.base c.args.value c.loop-place.place (c.loop-place.place - 1) (omega arith) (omega arith)),
       rw (c.loop-place.invariant.1, div-div-eq-div-mul, next, add-one, pow-suc),
     )
-
-pub returns : goal.returns
-returns c =
-    let first : c.loop-place.place ≡ 0 = omega arith in
-    rw (first, sub-zero) at c.loop-place.invariant.0

@@ -1,17 +1,13 @@
-use Rattle.std.proofs.Common.{◌≡◌, Ok, sym, refl, ap, ◌∙◌, arith}
-use native.Mathlib.Nat.{pow-zero}
+use Rattle.std.proofs.Common.{◌≡◌, Ok, sym, ap, ◌∙◌, arith}
 use mir.Facts.{Fits-bits}
 use Rattle.std.proofs.lemmas.Bool.{lt-ltb}
 use Rattle.layout.specs.Bytes.{worth_of}
 use Rattle.layout.specs.Slots.{value_of}
 use Rattle.layout.proofs.Digits.{push-lt}
 use Rattle.layout.proofs.Reading.{scan-stops, scan-passes}
-use Rattle.layout.proofs.Scanning.{number_more, push-fits, passes_none, passes-step}
+use Rattle.layout.proofs.Scanning.{number_more, push-fits, passes-step}
 use Rattle.fields.specs.Slots.{number_slot}
 use Rattle.fields.proofs.number.NumberField.scan.Goals as goal
-
-pub loop-place-init : goal.loop-place-init
-loop-place-init c = (passes_none (number_slot c.args.self) c.args.line.now, refl, rw pow-zero (omega arith))
 
 pub returns-in_default : goal.returns-in_default
 returns-in_default c = scan-stops _ _ _ (c.loop-place-test.true, c.loop-place.invariant.0, c.in_default.ensures)
