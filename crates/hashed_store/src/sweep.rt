@@ -3,9 +3,7 @@ ghost use Rattle.std.specs.Prelude.{◌≡◌, ◌≤◌, map, length};
 ghost use Rattle.tally.specs.Joining.{joined_all};
 ghost use Rattle.hashed_store.specs.Sweeps.{NextPicked, SweptOut};
 
-use crate::look::record_at;
 use crate::place::take_at;
-use crate::slot::Slot;
 use store::pick::Pick;
 use store::record::Record;
 use tally::measure::Measure;
@@ -26,11 +24,15 @@ pub(crate) struct Swept<T> {
 }
 
 // The first picked record from a place on.
-fn next_picked<R: Record, P: Pick<R>>(slots: &[Slot<R>], pick: &P, from: usize) -> Option<Found<R>>
+fn next_picked<R: Record, P: Pick<R>>(
+    slots: &[Option<R>],
+    pick: &P,
+    from: usize,
+) -> Option<Found<R>>
     ensures { NextPicked (P.Pick.picked pick.now) slots.now from result }
 {
     for place in from..slots.len() {
-        if let Some(item) = record_at(slots, place) {
+        if let Some(item) = slots[place] {
             if pick.picks(item) {
                 return Some(Found { place, item });
             }
@@ -42,7 +44,7 @@ fn next_picked<R: Record, P: Pick<R>>(slots: &[Slot<R>], pick: &P, from: usize) 
 // A removal may move a later record into the slot just emptied, so that slot is looked at again; it may also move one around the end, so the
 // slots are gone through until a whole round picks none.
 pub(crate) fn sweep_slots<R: Record, P: Pick<R>, M: Measure<R>>(
-    slots: &mut [Slot<R>],
+    slots: &mut [Option<R>],
     count: usize,
     reach: usize,
     pick: &P,
