@@ -14,10 +14,10 @@ pub record Picked {X : Type 0} (p : X → Bool) (ss : List (Option X)) (f : Foun
   pub is : slot_at ss f.place ≡ Some f.item
   pub picks : p f.item ≡ true
 
--- the first picked record from a place on, or none is picked there
-abbrev pub NextPicked : {X : Type 0} → (X → Bool) → List (Option X) → ℕ → Option (Found X) → Type 0
-NextPicked {X} p ss from None = (i : ℕ) (r : X) → from ≤ i → i < length ss → slot_at ss i ≡ Some r → p r ≡ false
-NextPicked p ss from (Some f) = Picked p ss f
+-- a picked record of the slots from a place to before another, or none is picked there
+abbrev pub PickedIn : {X : Type 0} → (X → Bool) → List (Option X) → ℕ → ℕ → Option (Found X) → Type 0
+PickedIn {X} p ss from to None = (i : ℕ) (r : X) → from ≤ i → i < to → slot_at ss i ≡ Some r → p r ≡ false
+PickedIn p ss from to (Some f) = Picked p ss f
 
 pub record Sweeping {X M : Type 0} (key : X → ℕ) (p : X → Bool) (given : X → M) (none : M) (joining : M → M → M) (reach : ℕ) (was is : List (Option X)) (s : Swept M) : Type 0 where
   pub total : s.given ≡ joined_all none joining (map given (those p (rows_of key was)))
