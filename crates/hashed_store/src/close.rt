@@ -30,9 +30,7 @@ pub(crate) fn move_back<R: Record>(slots: &mut [Option<R>], place: usize, hole: 
     requires { (place < length slots.old) × (hole < length slots.old) }
     ensures { slots.new ≡ slice_set (slice_set slots.old place None) hole (slot_at slots.old place) }
 {
-    let moved = slots[place];
-    slots[place] = None;
-    slots[hole] = moved;
+    slots[hole] = slots[place].take();
 }
 
 pub(crate) fn close<R: Record>(slots: &mut [Option<R>], hole: usize, reach: usize)

@@ -2,6 +2,7 @@
 ghost use Rattle.std.specs.Prelude.{◌≡◌, ◌<◌, ◌≤◌, length, MatchResult};
 ghost use Rattle.store.specs.Lists.{lookup};
 ghost use Rattle.hashed_store.specs.Holes.{Kept};
+ghost use Rattle.hashed_store.specs.Slots.{slot_at};
 ghost use Rattle.hashed_store.specs.Ways.{Sought};
 ghost use Rattle.hashed_store.specs.Places.{rows_of, PutSays, Exchanged, Taken, Removed, span_of};
 
@@ -64,12 +65,14 @@ pub(crate) fn exchange<R: Record>(
 }
 
 // Takes the record at a place out, and closes the hole.
-pub(crate) fn take_at<R: Record>(slots: &mut [Option<R>], place: usize, reach: usize)
+pub(crate) fn take_at<R: Record>(slots: &mut [Option<R>], place: usize, reach: usize) -> Option<R>
     requires { place < length slots.old }
-    ensures { Taken R.Record.key place reach slots.old slots.new }
+    ensures is { result ≡ slot_at slots.old place }
+    ensures leaves { Taken R.Record.key place reach slots.old slots.new }
 {
-    slots[place] = None;
+    let taken = slots[place].take();
     close(slots, place, reach);
+    taken
 }
 
 // Takes the record with a key out, and answers it.
@@ -77,7 +80,5 @@ pub(crate) fn remove_from<R: Record>(slots: &mut [Option<R>], key: u64, reach: u
     ensures { Removed R.Record.key key reach slots.old slots.new result }
 {
     let place = seek(slots, key, reach)?;
-    let removed = slots[place];
-    take_at(slots, place, reach);
-    removed
+    take_at(slots, place, reach)
 }

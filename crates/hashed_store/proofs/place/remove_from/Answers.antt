@@ -1,5 +1,3 @@
-use Rattle.std.proofs.Common.{None}
-use Rattle.std.proofs.lemmas.List.{get_or_read}
 use Rattle.hashed_store.proofs.Placing.{taken-key, no_key}
 use Rattle.hashed_store.proofs.place.remove_from.Goals as goal
 
@@ -9,5 +7,5 @@ returns-in_err-place g c =
 
 pub returns : goal.returns
 returns g c =
-    taken-key g.R.Record.key c.args.slots.now c.take_at.new.slots c.args.reach c.args.key c.in_ok-place.place c.index-slots-place.result c.in_ok-place.ensures
-    (get_or_read c.args.slots.now c.in_ok-place.place c.index-slots-place.result c.in_ok-place.ensures.inside c.index-slots-place.is None) c.take_at.ensures
+    taken-key g.R.Record.key c.args.slots.now c.take_at.new.slots c.args.reach c.args.key c.in_ok-place.place c.take_at.result c.in_ok-place.ensures
+    c.take_at.ensures.is c.take_at.ensures.leaves

@@ -12,7 +12,7 @@ loop-left-preserved g c = (
       let found = c.in-Some.ensures in
       let one : c.loop-left.left ≡ suc (c.loop-left.left - 1) = omega arith in
       let same : length c.take_at.new.slots ≡ length c.loop-left.slots = omega arith in
-      let out = c.take_at.ensures c.in-Some.found.item found.is was.kept in
+      let out = c.take_at.ensures.leaves c.in-Some.found.item found.is was.kept in
       let joined = c.join-given.ensures ∙ ap (g.M.Out.Tally.joining c.loop-left.given) c.of.ensures in
       let on = going_on g.R.Record.key (g.P.Pick.picked c.args.pick.now) (g.M.Measure.given c.args.measure.now) g.M.Out.Tally.none g.M.Out.Tally.joining
       law.associative law.commutative law.neutral c.args.reach c.args.slots.now
