@@ -22,19 +22,12 @@ pub(crate) fn least_from<R: Record>(slots: &[Option<R>], key: u64) -> Option<R>
 fn nearer<R: Record>(found: Option<R>, key: u64, best: Option<R>) -> Option<R>
     ensures { result ≡ nearest R.Record.key key found best }
 {
-    let Some(held) = found else {
-        return best;
-    };
-    if held.key() < key {
-        return best;
-    }
-    match best {
-        None => Some(held),
-        Some(other) => if held.key() < other.key() {
-            Some(held)
-        } else {
-            Some(other)
+    match found {
+        Some(held) if held.key() >= key => match best {
+            Some(other) if other.key() <= held.key() => best,
+            _ => found,
         },
+        _ => best,
     }
 }
 
@@ -42,6 +35,7 @@ fn nearer<R: Record>(found: Option<R>, key: u64, best: Option<R>) -> Option<R>
 pub(crate) fn next_held<R: Record>(slots: &[Option<R>], place: u64) -> Option<Visit<R>>
     ensures { Visited (λ p. held (drop p slots.now)) place result }
 {
+    // The place to go on from is part of the answer.
     for at in place..slots.len() as u64 {
         if let Some(record) = slots[at as usize] {
             return Some(Visit {

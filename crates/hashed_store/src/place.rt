@@ -1,4 +1,7 @@
 // Finding, putting in, exchanging and taking out a record among the slots.
+//
+// These take the slots and the reach, and not the store: a call of the store only hands them on, so that its proof needs no file and a wrong operand
+// is refused where it stands (docs/PROVING.md). A struct of the two would be the store once more.
 ghost use Rattle.std.specs.Prelude.{◌≡◌, ◌<◌, ◌≤◌, length, MatchResult};
 ghost use Rattle.store.specs.Lists.{lookup};
 ghost use Rattle.hashed_store.specs.Holes.{Kept};
