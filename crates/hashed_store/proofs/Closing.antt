@@ -2,10 +2,9 @@
 use Rattle.std.proofs.Common.{◌≡◌, ℕ, ◌<◌, ◌≤◌, List, length, set, sym, refl, ◌∙◌, arith, length-set, get_or-set_other, get_or-set_same, Some, None, Option}
 use Rattle.hashed_store.specs.Rounds.{offset}
 use Rattle.hashed_store.specs.Slots.{held, sorted, slot_at, strayed}
-use Rattle.hashed_store.specs.Looks.{Over}
 use Rattle.hashed_store.specs.Holes.{OverHole, NoneOver, Kept, Holed}
 use Rattle.hashed_store.proofs.Sorted.{rising-sorted}
-use Rattle.hashed_store.proofs.Held.{taken_out, put_in}
+use Rattle.hashed_store.proofs.Held.{record_of, taken_out, put_in}
 use Rattle.hashed_store.proofs.Meeting.{met-moved, met-closed, none_over}
 use Rattle.hashed_store.proofs.Spread.{spread, spread-falls}
 
@@ -14,14 +13,10 @@ module _ {X : Type 0} (key : X → ℕ) where
   pub moved : List (Option X) → ℕ → ℕ → List (Option X)
   moved ss i h = set (set ss i None) h (slot_at ss i)
 
-  held_of : (s : Option X) (n i u : ℕ) → Over key n u i s → (r : X) × ((s ≡ Some r) × (u ≤ strayed key n i r))
-  held_of None n i u o = absurd o
-  held_of (Some r) n i u o = (r, (refl, o))
-
   pub moving-falls : (ss : List (Option X)) (h i : ℕ) → h < length ss → OverHole key ss h i
       → spread key (length ss) 0 (set (set ss i None) h (slot_at ss i)) < spread key (length ss) 0 ss
   moving-falls ss h i lh o =
-      let f = held_of (slot_at ss i) (length ss) i (offset (length ss) h i) o.over in
+      let f = record_of (λ r. offset (length ss) h i ≤ strayed key (length ss) i r) (slot_at ss i) o.over in
       rw f.1.0 (spread-falls key (length ss) ss h i f.0 refl lh o.inside o.apart f.1.0 f.1.1)
 
   pub record Step (ss is : List (Option X)) (reach i : ℕ) : Type 0 where
@@ -32,7 +27,7 @@ module _ {X : Type 0} (key : X → ℕ) where
   pub moving-keeps : (ss : List (Option X)) (reach h i : ℕ) → h < length ss → OverHole key ss h i → Holed key ss reach h
       → Step ss (set (set ss i None) h (slot_at ss i)) reach i
   moving-keeps ss reach h i lh o was =
-      let f = held_of (slot_at ss i) (length ss) i (offset (length ss) h i) o.over in
+      let f = record_of (λ r. offset (length ss) h i ≤ strayed key (length ss) i r) (slot_at ss i) o.over in
       let r : X = f.0 in
       let out = taken_out key ss i r o.inside f.1.0 was.apart in
       let away : h ≡ i → ⊥ = λ e. o.apart (sym e) in

@@ -1,10 +1,10 @@
 -- Going through all slots.
-use Rattle.std.proofs.Common.{◌≡◌, ℕ, zero, suc, ◌+◌, ◌-◌, ◌<◌, ◌≤◌, List, [], ◌∷◌, ◌++◌, length, drop, fold, replicate, reverse, Some, None, Option, sym, refl, ap, ◌∙◌, subst, ⊎_elim, add-one, arith, drop-cons}
-use Rattle.std.proofs.lemmas.List.{drop_all, reverse-append}
+use Rattle.std.proofs.Common.{◌≡◌, ℕ, zero, suc, ◌<◌, ◌≤◌, List, [], ◌∷◌, fold, replicate, reverse, Some, None, Option, sym, refl, ap, ◌∙◌, ⊎_elim, arith}
+use Rattle.std.proofs.lemmas.List.{reverse-append}
 use Rattle.std.proofs.lemmas.List.Sums.{fold-append}
 use Rattle.std.proofs.lemmas.Bool.{cases_lt, lt-ltb, le-ltb, le-leb, lt-leb}
 use Rattle.store.specs.Lists.{first_from, placed}
-use Rattle.hashed_store.specs.Slots.{held, sorted, slot_at, nearer, nearest}
+use Rattle.hashed_store.specs.Slots.{held, sorted, nearer, nearest}
 
 module _ {X : Type 0} (key : X → ℕ) where
   passed : (k : ℕ) (r : X) (o : Option X) → key r < k → nearer key k r o ≡ o
@@ -39,23 +39,6 @@ module _ {X : Type 0} (key : X → ℕ) where
       ap (fold h None) (reverse-append (s ∷ []) ss) ∙ fold-append h None (reverse ss) (s ∷ []) ∙ ap (λ best. nearest key k s best) (from-last k ss) ∙ sym (from_cons k s ss)
 
 module _ {X : Type 0} where
-  recorded : (s : Option X) (r : X) (ss : List (Option X)) → Some r ≡ s → held (s ∷ ss) ≡ r ∷ held ss
-  recorded None r ss e = let z : ◌≡◌ {A = ℕ} 0 1 = cc in absurd (omega arith)
-  recorded (Some q) r ss e = let f : q ≡ r = cc in ap (λ t. t ∷ held ss) f
-
-  unrecorded : (s : Option X) (ss : List (Option X)) → None ≡ s → held (s ∷ ss) ≡ held ss
-  unrecorded None ss e = refl
-  unrecorded (Some q) ss e = let z : ◌≡◌ {A = ℕ} 0 1 = cc in absurd (omega arith)
-
-  pub next-some : (ss : List (Option X)) (i : ℕ) (r : X) → i < length ss → Some r ≡ slot_at ss i → held (drop i ss) ≡ r ∷ held (drop (i + 1) ss)
-  next-some ss i r l e = rw (add-one, drop-cons ss i None l) (recorded (slot_at ss i) r (drop (suc i) ss) e)
-
-  pub next-none : (ss : List (Option X)) (i : ℕ) → i < length ss → None ≡ slot_at ss i → held (drop i ss) ≡ held (drop (i + 1) ss)
-  next-none ss i l e = rw (add-one, drop-cons ss i None l) (unrecorded (slot_at ss i) (drop (suc i) ss) e)
-
-  pub held-past : (ss : List (Option X)) (i : ℕ) → length ss ≤ i → held (drop i ss) ≡ []
-  held-past ss i l = ap held (drop_all i ss l)
-
   pub held-blank : (n : ℕ) → held {X = X} (replicate n None) ≡ []
   held-blank zero = refl
   held-blank (suc n) = held-blank n

@@ -1,11 +1,16 @@
 -- What slots hold, before and after one of them is written.
-use Rattle.std.proofs.Common.{◌≡◌, ℕ, zero, suc, ◌<◌, ◌≤◌, List, [], ◌∷◌, ◌++◌, length, set, sym, refl, ap, ◌∙◌, append_assoc, arith, length-append, Some, None, Option}
+use Rattle.std.proofs.Common.{◌≡◌, ℕ, zero, suc, ◌<◌, ◌≤◌, List, [], ◌∷◌, ◌++◌, length, set, sym, refl, ap, ◌∙◌, append_assoc, arith, length-append, Some, None, Option, IsSomeAnd}
 use Rattle.store.specs.Lists.{Each, placed}
 use Rattle.store.proofs.Each.{Absent, each-front, each_back}
 use Rattle.hashed_store.specs.Slots.{held_in, held, sorted, Apart, slot_at}
 use Rattle.hashed_store.proofs.Sorted.{sorted-among, apart_in, apart_out, absent-out}
 
 module _ {X : Type 0} where
+  -- the record of a slot that holds one
+  pub record_of : (P : X → Type 0) (s : Option X) → IsSomeAnd s P → (r : X) × ((s ≡ Some r) × P r)
+  record_of P None h = absurd h
+  record_of P (Some r) h = (r, (refl, h))
+
   -- what the slots before and after a place hold
   before : List (Option X) → ℕ → List X
   before [] i = []

@@ -1,6 +1,6 @@
 -- From how a search ended to what is held, and from slots written to records in the order of their keys.
 use Rattle.std.proofs.Common.{◌≡◌, ℕ, suc, ◌<◌, ◌≤◌, true, false, leb, ◌⊎◌, List, [], ◌∷◌, length, set, is_some, Some, None, Ok, Err, Option, sym, refl, ap, ◌∙◌, subst, inl, inr, ⊎_elim, arith, length-set, get_or-set_same, set-set}
-use Rattle.std.proofs.lemmas.Bool.{cases_lt, lt-ltb, le-ltb, le-leb, lt-leb}
+use Rattle.std.proofs.lemmas.Bool.{cases_lt, le-leb, lt-leb}
 use Rattle.store.specs.Lists.{lookup, holds, placed, replaced, without}
 use Rattle.store.specs.Models.{removing}
 use Rattle.store.specs.declared.refusal.ReplaceRefusal.TheVariants.{Missing}
@@ -10,12 +10,11 @@ use Rattle.store.proofs.Keyed.{lookup_absent, holds-absent, replaced-absent, wit
 use Rattle.store.proofs.Placed.{lookup-placed, without-placed, replaced-placed}
 use Rattle.hashed_store.specs.Rounds.{around}
 use Rattle.hashed_store.specs.Slots.{held, sorted, Apart, slot_at, home_of, Passed, Other}
-use Rattle.hashed_store.specs.Looks.{HasKey}
 use Rattle.hashed_store.specs.Ways.{WentHere, WentToGap}
 use Rattle.hashed_store.specs.Holes.{Kept, Holed, Filled}
 use Rattle.hashed_store.specs.Places.{rows_of, model_of, span_of, PutIn, NotPut, Exchanged, Out, NoKey, Removed, Cleared}
 use Rattle.hashed_store.proofs.Sorted.{each-sorted, rising-sorted, length-sorted}
-use Rattle.hashed_store.proofs.Held.{taken_out, put_in, held-fewer, held-full, held-each}
+use Rattle.hashed_store.proofs.Held.{record_of, taken_out, put_in, held-fewer, held-full, held-each}
 use Rattle.hashed_store.proofs.Rounds.{around-offset, offset-below}
 use Rattle.hashed_store.proofs.Meeting.{met-in, met-exchanged, met-out, absent-gap, absent-past, home_below}
 use Rattle.hashed_store.specs.Rounds.{offset}
@@ -25,10 +24,6 @@ spans reach n =
     ⊎_elim (λ l. inl (omega arith)) (λ l. inr (omega arith)) (cases_lt reach n)
 
 module _ {X : Type 0} (key : X → ℕ) where
-  has-record : (s : Option X) (k : ℕ) → HasKey key k s → (r : X) × ((s ≡ Some r) × (key r ≡ k))
-  has-record None k h = absurd h
-  has-record (Some r) k h = (r, (refl, h))
-
   absent-rows : (ss : List (Option X)) (k : ℕ) → Absent key k (held ss) → Absent key k (rows_of key ss)
   absent-rows ss k a = each-sorted key (λ y. key y ≡ k → ⊥) (held ss) a
 
@@ -48,7 +43,7 @@ module _ {X : Type 0} (key : X → ℕ) where
 
   pub found_at : (ss : List (Option X)) (k i : ℕ) → Apart key (held ss) → WentHere key ss k i → FoundAt ss k i
   found_at ss k i a w =
-      let f = has-record (slot_at ss i) k w.has in
+      let f = record_of (λ r. key r ≡ k) (slot_at ss i) w.has in
       let r : X = f.0 in
       let out = taken_out key ss i r w.inside f.1.0 a in
       let seen : lookup key k (rows_of key ss) ≡ Some r =
@@ -69,8 +64,7 @@ module _ {X : Type 0} (key : X → ℕ) where
   looked-absent ss k a = sym (lookup_absent key k (rows_of key ss) (absent-rows ss k a))
 
   other-used : (s : Option X) (k : ℕ) → Other key k s → s ≡ None → ⊥
-  other-used None k o e = o
-  other-used (Some r) k o e = let z : ◌≡◌ {A = ℕ} 0 1 = cc in omega arith
+  other-used s k o e = rw e at o
 
   -- what insert says and leaves, by whether the key is held and whether there is room
   insert-taken : (ss : List (Option X)) (r : X) → holds key (key r) (rows_of key ss) ≡ true → NotPut key r Occupied ss ss

@@ -1,5 +1,5 @@
 -- Sweeping the slots, one picked record after another.
-use Rattle.std.proofs.Common.{◌≡◌, ℕ, suc, ◌<◌, ◌≤◌, Bool, true, false, List, [], ◌∷◌, map, length, sym, refl, ap, ◌∙◌, arith, Some, Option}
+use Rattle.std.proofs.Common.{◌≡◌, ℕ, suc, ◌<◌, ◌≤◌, Bool, true, false, List, [], ◌∷◌, map, length, sym, ap, ◌∙◌, arith, Some, Option}
 use Rattle.tally.specs.Joining.{joined_all}
 use Rattle.store.specs.Lists.{Each, those, others}
 use Rattle.store.proofs.Sweeps.{takings-none, takings-placed, others-placed, others-all}
@@ -23,9 +23,6 @@ module _ {X M : Type 0} (key : X → ℕ) (p : X → Bool) (given : X → M) (no
     (associative : (x y z : M) → joining (joining x y) z ≡ joining x (joining y z))
     (commutative : (x y : M) → joining x y ≡ joining y x)
     (neutral : (x : M) → joining none x ≡ x) (reach : ℕ) (was : List (Option X)) where
-  pub going-starts : (count : ℕ) → Kept key was reach → count ≡ length (rows_of key was) → Going key p given none joining reach was was none count
-  going-starts count kept e = record { kept = kept; slots = refl; count = e; rows = refl; total = neutral _ }
-
   pub going_on : (ss is : List (Option X)) (t : M) (left less : ℕ) (r : X) → length is ≡ length ss → left ≡ suc less → p r ≡ true → Going key p given none joining reach was ss t left → Out key r reach ss is
       → Going key p given none joining reach was is (joining t (given r)) less
   going_on ss is t left less r size e pick go out =

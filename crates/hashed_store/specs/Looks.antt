@@ -1,13 +1,11 @@
 -- What one slot says to a search.
-use Rattle.std.specs.Prelude.{◌≡◌, ℕ, ◌≤◌, Some, None, Option}
+use Rattle.std.specs.Prelude.{◌≡◌, ℕ, ◌≤◌, Option, IsSomeAnd}
 use Rattle.hashed_store.specs.Slots.{strayed}
 
 -- the slot holds a record with the key k
 abbrev pub HasKey : {X : Type 0} → (X → ℕ) → ℕ → Option X → Type 0
-HasKey key k None = ⊥
-HasKey key k (Some r) = key r ≡ k
+HasKey key k s = IsSomeAnd s (λ r. key r ≡ k)
 
 -- the slot at the place i holds a record that has strayed s steps or more
 abbrev pub Over : {X : Type 0} → (X → ℕ) → ℕ → ℕ → ℕ → Option X → Type 0
-Over key n s i None = ⊥
-Over key n s i (Some r) = s ≤ strayed key n i r
+Over key n s i q = IsSomeAnd q (λ r. s ≤ strayed key n i r)

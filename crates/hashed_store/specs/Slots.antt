@@ -1,5 +1,5 @@
 -- What the slots of a hashed store hold, and how they are kept.
-use Rattle.std.specs.Prelude.{◌≡◌, ℕ, ◌%◌, ◌<◌, ◌≤◌, cond, List, [], ◌∷◌, ◌++◌, Some, None, Option, ◌≢◌, nat_lt, slice_index_or}
+use Rattle.std.specs.Prelude.{◌≡◌, ℕ, ◌%◌, ◌<◌, ◌≤◌, cond, List, [], ◌∷◌, ◌++◌, Some, None, Option, IsSomeAnd, ◌≢◌, nat_lt, slice_index_or}
 use Rattle.store.specs.Lists.{Each, placed}
 use Rattle.hashed_store.specs.Rounds.{around, offset}
 
@@ -62,8 +62,7 @@ HoleAt h i = i ≡ h
 
 -- the slot holds a record with another key than k
 abbrev pub Other : {X : Type 0} → (X → ℕ) → ℕ → Option X → Type 0
-Other key k None = ⊥
-Other key k (Some r) = key r ≡ k → ⊥
+Other key k s = IsSomeAnd s (λ r. key r ≢ k)
 
 -- so do the first t slots of the search for k
 abbrev pub Passed : {X : Type 0} → (X → ℕ) → ℕ → List (Option X) → ℕ → ℕ → Type 0
@@ -71,8 +70,7 @@ Passed key n ss k t = (s : ℕ) → s < t → Other key k (slot_at ss (around n 
 
 -- the slot holds a record that has not strayed as far as s steps
 abbrev pub NotOver : {X : Type 0} → (X → ℕ) → ℕ → ℕ → ℕ → Option X → Type 0
-NotOver key n s i None = ⊥
-NotOver key n s i (Some r) = strayed key n i r < s
+NotOver key n s i q = IsSomeAnd q (λ r. strayed key n i r < s)
 
 -- the slots after the place h, up to the u-th, hold records whose way does not go over h
 abbrev pub Short : {X : Type 0} → (X → ℕ) → ℕ → List (Option X) → ℕ → ℕ → Type 0

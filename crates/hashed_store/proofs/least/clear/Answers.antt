@@ -1,4 +1,4 @@
-use Rattle.std.proofs.Common.{◌≡◌, length, ap, ◌∙◌, rules}
+use Rattle.std.proofs.Common.{length, ap, ◌∙◌, rules}
 use Rattle.hashed_store.specs.Slots.{held}
 use Rattle.hashed_store.proofs.Going.{held-blank}
 use Rattle.hashed_store.proofs.Placing.{cleared-all}
