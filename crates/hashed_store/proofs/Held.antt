@@ -52,7 +52,7 @@ module _ {X : Type 0} where
   pub held-fewer : (ss : List (Option X)) (i : ℕ) → i < length ss → slot_at ss i ≡ None → length (held ss) < length ss
   held-fewer [] i h e = absurd (omega arith)
   held-fewer (None ∷ ss) i h e = let m = held-most ss in omega arith
-  held-fewer (Some r ∷ ss) zero h e = let z : ◌≡◌ {A = ℕ} 0 1 = cc in absurd (omega arith)
+  held-fewer (Some r ∷ ss) zero h e = cc
   held-fewer (Some r ∷ ss) (suc i) h e = let m = held-fewer ss i (omega arith) e in omega arith
 
   pub held-full : (ss : List (Option X)) → ((i : ℕ) → i < length ss → slot_at ss i ≡ None → ⊥) → length (held ss) ≡ length ss

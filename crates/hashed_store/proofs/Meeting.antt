@@ -9,7 +9,7 @@ use Rattle.hashed_store.proofs.Held.{each-held}
 
 module _ {X : Type 0} where
   held-empty : {s : Option X} {r : X} → s ≡ Some r → s ≡ None → ⊥
-  held-empty e f = let z : ◌≡◌ {A = ℕ} 0 1 = cc in omega arith
+  held-empty e f = cc
 
   -- a slot of those after one was filled
   filled-empty : (ss : List (Option X)) (i : ℕ) (r : X) (p : ℕ) → i < length ss → slot_at (set ss i (Some r)) p ≡ None → (p ≢ i) × (slot_at ss p ≡ None)

@@ -20,8 +20,7 @@ use Rattle.hashed_store.proofs.Meeting.{met-in, met-exchanged, met-out, absent-g
 use Rattle.hashed_store.specs.Rounds.{offset}
 
 pub spans : (reach n : ℕ) → (reach < span_of reach n) ⊎ (n ≤ span_of reach n)
-spans reach n =
-    ⊎_elim (λ l. inl (omega arith)) (λ l. inr (omega arith)) (cases_lt reach n)
+spans reach n = grind arith
 
 module _ {X : Type 0} (key : X → ℕ) where
   absent-rows : (ss : List (Option X)) (k : ℕ) → Absent key k (held ss) → Absent key k (rows_of key ss)
@@ -172,8 +171,7 @@ module _ {X : Type 0} (key : X → ℕ) where
       → ((r : X) → slot_at ss i ≡ Some r → Kept key ss reach → Out key r reach ss is) → Removed key k reach ss is o
   taken-key ss is reach k i None w e out = λ kept.
       let f = found_at ss k i kept.apart w in
-      let e2 = e ∙ f.is in
-      let z : ◌≡◌ {A = ℕ} 0 1 = cc in absurd (omega arith)
+      let e2 = e ∙ f.is in cc
   taken-key ss is reach k i (Some r) w e out = λ kept.
       let f = found_at ss k i kept.apart w in
       let done = out f.found f.is kept in
