@@ -1,0 +1,15 @@
+use Rattle.std.proofs.Common.{codes, refl, rules, arith}
+use Rattle.std.proofs.lemmas.Slice.Eq.{text_from_reads}
+use Rattle.calls.proofs.verb.verb_of.Goals as goal
+
+pub returns-in-insert : goal.returns-in-insert
+returns-in-insert c = rw (text_from_reads c.args.word.now (codes "insert") (omega arith) (search rules)) refl
+
+pub returns-in-remove : goal.returns-in-remove
+returns-in-remove c = rw (text_from_reads c.args.word.now (codes "remove") (omega arith) (search rules)) refl
+
+pub returns-in-stands : goal.returns-in-stands
+returns-in-stands c = rw (text_from_reads c.args.word.now (codes "stands") (omega arith) (search rules)) refl
+
+pub returns-in-replace : goal.returns-in-replace
+returns-in-replace c = rw (text_from_reads c.args.word.now (codes "replace") (omega arith) (search rules)) refl
