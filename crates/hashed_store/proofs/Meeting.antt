@@ -1,5 +1,5 @@
 -- Every record stays where a search from its home meets it, whatever is put in, taken out or moved into a hole.
-use Rattle.std.proofs.Common.{◌≡◌, ℕ, ◌+◌, ◌-◌, ◌<◌, ◌≤◌, ◌≢◌, ◌⊎◌, List, length, set, sym, ap, ◌∙◌, subst, inl, inr, ⊎_elim, mod-lt, arith, length-set, get_or-set_other, get_or-set_same, Some, None, Option}
+use Rattle.std.proofs.Common.{◌≡◌, ℕ, ◌+◌, ◌-◌, ◌<◌, ◌≤◌, ◌≢◌, ◌⊎◌, List, length, set, sym, ap, ◌∙◌, subst, ⊎_elim, mod-lt, arith, rules, length-set, get_or-set_other, get_or-set_same, Some, None, Option}
 use Rattle.std.proofs.lemmas.Bool.{cases_eq, cases_lt}
 use Rattle.store.proofs.Each.{Absent}
 use Rattle.hashed_store.specs.Rounds.{around, offset}
@@ -13,19 +13,14 @@ module _ {X : Type 0} where
 
   -- a slot of those after one was filled
   filled-empty : (ss : List (Option X)) (i : ℕ) (r : X) (p : ℕ) → i < length ss → slot_at (set ss i (Some r)) p ≡ None → (p ≢ i) × (slot_at ss p ≡ None)
-  filled-empty ss i r p l e =
-      let n : p ≢ i = λ q. held-empty (get_or-set_same ss i (Some r) None l) (rw q at e) in
-      (n, sym (get_or-set_other ss i p (Some r) None n) ∙ e)
+  filled-empty ss i r p l e = search rules
 
   -- and after one was emptied
   emptied-empty : (ss : List (Option X)) (i p : ℕ) → slot_at (set ss i None) p ≡ None → (p ≡ i) ⊎ (slot_at ss p ≡ None)
-  emptied-empty ss i p e =
-      ⊎_elim (λ q. inl q) (λ q. inr (sym (get_or-set_other ss i p None None q) ∙ e)) (cases_eq p i)
+  emptied-empty ss i p e = search rules
 
   emptied-held : (ss : List (Option X)) (i p : ℕ) (r : X) → i < length ss → slot_at (set ss i None) p ≡ Some r → (p ≢ i) × (slot_at ss p ≡ Some r)
-  emptied-held ss i p r l e =
-      let n : p ≢ i = λ q. held-empty (rw q at e) (get_or-set_same ss i None None l) in
-      (n, sym (get_or-set_other ss i p None None n) ∙ e)
+  emptied-held ss i p r l e = search rules
 
   -- and after a record was moved from j to h
   moved-empty : (ss : List (Option X)) (h j : ℕ) (r : X) (p : ℕ) → h < length (set ss j None) → slot_at (set (set ss j None) h (Some r)) p ≡ None

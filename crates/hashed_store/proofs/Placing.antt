@@ -1,6 +1,6 @@
 -- From how a search ended to what is held, and from slots written to records in the order of their keys.
-use Rattle.std.proofs.Common.{◌≡◌, ℕ, suc, ◌<◌, ◌≤◌, true, false, leb, ◌⊎◌, List, [], ◌∷◌, length, set, is_some, Some, None, Ok, Err, Option, sym, refl, ap, ◌∙◌, subst, inl, inr, ⊎_elim, arith, length-set, get_or-set_same, set-set}
-use Rattle.std.proofs.lemmas.Bool.{cases_lt, le-leb, lt-leb}
+use Rattle.std.proofs.Common.{◌≡◌, ℕ, suc, ◌<◌, ◌≤◌, true, false, leb, ◌⊎◌, List, [], ◌∷◌, length, set, is_some, Some, None, Ok, Err, Option, sym, refl, ap, ◌∙◌, subst, inr, arith, length-set, get_or-set_same, set-set}
+use Rattle.std.proofs.lemmas.Bool.{le-leb, lt-leb}
 use Rattle.store.specs.Lists.{lookup, holds, placed, replaced, without}
 use Rattle.store.specs.Models.{removing}
 use Rattle.store.specs.declared.refusal.ReplaceRefusal.TheVariants.{Missing}
@@ -169,9 +169,7 @@ module _ {X : Type 0} (key : X → ℕ) where
 
   pub taken-key : (ss is : List (Option X)) (reach k i : ℕ) (o : Option X) → WentHere key ss k i → o ≡ slot_at ss i
       → ((r : X) → slot_at ss i ≡ Some r → Kept key ss reach → Out key r reach ss is) → Removed key k reach ss is o
-  taken-key ss is reach k i None w e out = λ kept.
-      let f = found_at ss k i kept.apart w in
-      let e2 = e ∙ f.is in cc
+  taken-key ss is reach k i None w e out = grind arith
   taken-key ss is reach k i (Some r) w e out = λ kept.
       let f = found_at ss k i kept.apart w in
       let done = out f.found f.is kept in
