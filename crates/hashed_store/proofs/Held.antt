@@ -1,8 +1,9 @@
 -- What slots hold, before and after one of them is written.
 use Rattle.std.proofs.Common.{◌≡◌, ℕ, zero, suc, ◌<◌, ◌≤◌, List, [], ◌∷◌, ◌++◌, length, set, sym, refl, ap, ◌∙◌, append_assoc, arith, length-append, Some, None, Option, IsSomeAnd}
+use Rattle.std.specs.Option.{option_to_list}
 use Rattle.store.specs.Lists.{Each, placed}
 use Rattle.store.proofs.Each.{Absent, each-front, each_back}
-use Rattle.hashed_store.specs.Slots.{held_in, held, sorted, Apart, slot_at}
+use Rattle.hashed_store.specs.Slots.{held, sorted, Apart, slot_at}
 use Rattle.hashed_store.proofs.Sorted.{sorted-among, apart_in, apart_out, absent-out}
 
 module _ {X : Type 0} where
@@ -15,24 +16,24 @@ module _ {X : Type 0} where
   before : List (Option X) → ℕ → List X
   before [] i = []
   before (s ∷ ss) zero = []
-  before (s ∷ ss) (suc i) = held_in s ++ before ss i
+  before (s ∷ ss) (suc i) = option_to_list s ++ before ss i
 
   after : List (Option X) → ℕ → List X
   after [] i = []
   after (s ∷ ss) zero = held ss
   after (s ∷ ss) (suc i) = after ss i
 
-  held-set : (ss : List (Option X)) (i : ℕ) (s : Option X) → i < length ss → held (set ss i s) ≡ before ss i ++ (held_in s ++ after ss i)
+  held-set : (ss : List (Option X)) (i : ℕ) (s : Option X) → i < length ss → held (set ss i s) ≡ before ss i ++ (option_to_list s ++ after ss i)
   unfolding before after
   held-set [] i s h = absurd (omega arith)
   held-set (q ∷ ss) zero s h = refl
-  held-set (q ∷ ss) (suc i) s h = ap (λ t. held_in q ++ t) (held-set ss i s (omega arith)) ∙ sym (append_assoc (held_in q) (before ss i) (held_in s ++ after ss i))
+  held-set (q ∷ ss) (suc i) s h = ap (λ t. option_to_list q ++ t) (held-set ss i s (omega arith)) ∙ sym (append_assoc (option_to_list q) (before ss i) (option_to_list s ++ after ss i))
 
-  held_at : (ss : List (Option X)) (i : ℕ) (s : Option X) → i < length ss → slot_at ss i ≡ s → held ss ≡ before ss i ++ (held_in s ++ after ss i)
+  held_at : (ss : List (Option X)) (i : ℕ) (s : Option X) → i < length ss → slot_at ss i ≡ s → held ss ≡ before ss i ++ (option_to_list s ++ after ss i)
   unfolding before after
   held_at [] i s h e = absurd (omega arith)
-  held_at (q ∷ ss) zero s h e = ap (λ t. held_in t ++ held ss) e
-  held_at (q ∷ ss) (suc i) s h e = ap (λ t. held_in q ++ t) (held_at ss i s (omega arith) e) ∙ sym (append_assoc (held_in q) (before ss i) (held_in s ++ after ss i))
+  held_at (q ∷ ss) zero s h e = ap (λ t. option_to_list t ++ held ss) e
+  held_at (q ∷ ss) (suc i) s h e = ap (λ t. option_to_list q ++ t) (held_at ss i s (omega arith) e) ∙ sym (append_assoc (option_to_list q) (before ss i) (option_to_list s ++ after ss i))
 
   -- what holds of each record held, and of the record at each place
   pub each-held : (P : X → Type 0) (ss : List (Option X)) → ((i : ℕ) (r : X) → i < length ss → slot_at ss i ≡ Some r → P r) → Each P (held ss)

@@ -1,16 +1,13 @@
 -- What the slots of a hashed store hold, and how they are kept.
 use Rattle.std.specs.Prelude.{◌≡◌, ℕ, ◌%◌, ◌<◌, ◌≤◌, cond, List, [], ◌∷◌, ◌++◌, Some, None, Option, IsSomeAnd, ◌≢◌, nat_lt, slice_index_or}
+use Rattle.std.specs.Option.{option_to_list}
 use Rattle.store.specs.Lists.{Each, placed}
 use Rattle.hashed_store.specs.Rounds.{around, offset}
 
--- what one slot holds, and what all hold from the first to the last
-abbrev pub held_in : {X : Type 0} → Option X → List X
-held_in None = []
-held_in (Some r) = r ∷ []
-
+-- what all slots hold, from the first to the last
 abbrev pub held : {X : Type 0} → List (Option X) → List X
 held [] = []
-held (s ∷ ss) = held_in s ++ held ss
+held (s ∷ ss) = option_to_list s ++ held ss
 
 -- the one of two records that is nearer to the key k from above
 abbrev pub nearer : {X : Type 0} → (X → ℕ) → ℕ → X → Option X → Option X

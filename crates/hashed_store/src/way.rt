@@ -25,6 +25,7 @@ pub(crate) fn way<R: Record>(slots: &[Option<R>], key: u64, most: usize) -> Endi
         return Ending::Past;
     }
     let mut place = home(key, count);
+    // The steps taken are part of the answer.
     for taken in 0..most {
         match &slots[place] {
             None => return Ending::Gap(place, taken),
