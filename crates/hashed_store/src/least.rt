@@ -8,10 +8,11 @@ ghost use Rattle.hashed_store.specs.Slots.{held, nearest};
 use store::record::Record;
 use store::visit::Visit;
 
-// The record with the least key at or above one.
+// The record with the least key at or above one; of equal keys, the last.
 pub(crate) fn least_from<R: Record>(slots: &[Option<R>], key: u64) -> Option<R>
     ensures { result ≡ first_from R.Record.key key (rows_of R.Record.key slots.now) }
 {
+    // No `filter` and `min_by_key`: no proof of their answer was found in three tries.
     slots
         .iter()
         .rev()
