@@ -1,5 +1,5 @@
 -- What a line asks for: its first word is the verb, and after it come as many words as the verb takes.
-use Rattle.std.specs.Prelude.{ℕ, Bool, true, false, cond, List, [], ◌∷◌, Some, None, codes, Option, nat_le}
+use Rattle.std.specs.Prelude.{ℕ, Bool, true, false, cond, List, [], ◌∷◌, Some, None, codes, Option, nat_le, option_map}
 use Rattle.std.specs.Str.{bytes_eq}
 use Rattle.calls.specs.declared.call.Call.{Call}
 use Rattle.calls.specs.declared.call.Call.TheVariants.{Insert, Find, From, Replace, Remove, Stands, Count, Limit, Empty}
@@ -13,8 +13,8 @@ use Rattle.calls.specs.Verbs.{verb_meant, kind_of}
 use Rattle.calls.specs.Words.{words}
 
 -- no word
-abbrev pub bare_of : Call → List (List ℕ) → Option Request
-bare_of call [] = Some (Ask call)
+abbrev pub bare_of : Call → List (List ℕ) → Option Call
+bare_of call [] = Some call
 bare_of call (w ∷ ws) = None
 
 -- one number
@@ -65,9 +65,9 @@ verb_asks (Some verb.From) ws = keyed From (one_of ws)
 verb_asks (Some verb.Replace) ws = paired Replace (two_of ws)
 verb_asks (Some verb.Remove) ws = keyed Remove (one_of ws)
 verb_asks (Some verb.Stands) ws = keyed Stands (one_of ws)
-verb_asks (Some verb.Count) ws = bare_of Count ws
-verb_asks (Some verb.Limit) ws = bare_of Limit ws
-verb_asks (Some verb.Empty) ws = bare_of Empty ws
+verb_asks (Some verb.Count) ws = option_map Ask (bare_of Count ws)
+verb_asks (Some verb.Limit) ws = option_map Ask (bare_of Limit ws)
+verb_asks (Some verb.Empty) ws = option_map Ask (bare_of Empty ws)
 
 abbrev pub words_ask : List (List ℕ) → Option Request
 words_ask [] = None

@@ -1,14 +1,14 @@
 // What a line can ask for.
 
 // What the records of a new store stand in.
-#[derive(Clone, Copy)]
+#[derive(Clone, Copy, PartialEq, Eq, Debug)]
 pub enum Kind {
     Row,
     Hashed,
 }
 
 // A store to open: its kind, with a front before it or none, over memory for so many records.
-#[derive(Clone, Copy)]
+#[derive(Clone, Copy, PartialEq, Eq, Debug)]
 pub struct Opening {
     pub front: bool,
     pub kind: Kind,
@@ -16,7 +16,7 @@ pub struct Opening {
 }
 
 // A call of the open store, with an order's key and shares where it takes them.
-#[derive(Clone, Copy)]
+#[derive(Clone, Copy, PartialEq, Eq, Debug)]
 pub enum Call {
     Insert(u64, u64),
     Find(u64),
@@ -29,7 +29,7 @@ pub enum Call {
     Empty,
 }
 
-#[derive(Clone, Copy)]
+#[derive(Clone, Copy, PartialEq, Eq, Debug)]
 pub enum Request {
     Open(Opening),
     Ask(Call),

@@ -9,6 +9,7 @@ pub trait Fronted {
     // for each key whether it stands, where there is a front
     ghost fronts: { Self → ℕ → Option Bool };
 
+    // No default answers none: its proof would have to hold of every `fronts`.
     fn in_front(&self, key: u64) -> Option<bool>
         ensures { result ≡ fronts self.now key };
 }

@@ -15,7 +15,7 @@ pub(crate) fn whole_number(line: &[u8]) -> Option<u64>
 pub(crate) fn number(bytes: &[u8]) -> Option<u64>
     ensures { result ≡ number_of bytes.now }
 {
-    if bytes.len() == 0 {
+    if bytes.is_empty() {
         return None;
     }
     digits(bytes)
@@ -26,10 +26,7 @@ fn digits(bytes: &[u8]) -> Option<u64>
 {
     let mut value = 0;
     for byte in bytes {
-        let Some(more) = pushed(value, *byte) else {
-            return None;
-        };
-        value = more;
+        value = pushed(value, *byte)?;
     }
     Some(value)
 }
@@ -38,12 +35,8 @@ fn digits(bytes: &[u8]) -> Option<u64>
 fn pushed(value: u64, byte: u8) -> Option<u64>
     ensures { result ≡ pushed_on value byte }
 {
-    if byte < b'0' || byte > b'9' {
+    if !byte.is_ascii_digit() {
         return None;
     }
-    let digit = (byte - b'0') as u64;
-    if value > (u64::MAX - digit) / 10 {
-        return None;
-    }
-    Some(value * 10 + digit)
+    value.checked_mul(10)?.checked_add((byte - b'0') as u64)
 }

@@ -6,7 +6,7 @@ ghost use Rattle.calls.specs.Words.{words, words_after};
 use crate::call::{Call, Opening, Request};
 use crate::number::{number, whole_number};
 use crate::verb::{Verb, kind_of, verb_of};
-use crate::words::{after_space, cut, is_word};
+use crate::words::{after_space, cut};
 
 // No line opens a store of more records.
 const MOST: u64 = 4096;
@@ -15,43 +15,38 @@ pub fn parse(line: &[u8]) -> Option<Request>
     ensures { result ≡ request_of line.now }
 {
     let (word, rest) = cut(line);
-    match verb_of(word)? {
-        Verb::Store => opening(rest),
+    let call = match verb_of(word)? {
+        Verb::Store => return opening(rest),
         Verb::Insert => {
             let (key, shares) = two_numbers(rest)?;
-            Some(Request::Ask(Call::Insert(key, shares)))
+            Call::Insert(key, shares)
         }
-        Verb::Find => Some(Request::Ask(Call::Find(one_number(rest)?))),
-        Verb::From => Some(Request::Ask(Call::From(one_number(rest)?))),
+        Verb::Find => Call::Find(one_number(rest)?),
+        Verb::From => Call::From(one_number(rest)?),
         Verb::Replace => {
             let (key, shares) = two_numbers(rest)?;
-            Some(Request::Ask(Call::Replace(key, shares)))
+            Call::Replace(key, shares)
         }
-        Verb::Remove => Some(Request::Ask(Call::Remove(one_number(rest)?))),
-        Verb::Stands => Some(Request::Ask(Call::Stands(one_number(rest)?))),
-        Verb::Count => alone(Call::Count, rest),
-        Verb::Limit => alone(Call::Limit, rest),
-        Verb::Empty => alone(Call::Empty, rest),
-    }
+        Verb::Remove => Call::Remove(one_number(rest)?),
+        Verb::Stands => Call::Stands(one_number(rest)?),
+        Verb::Count => alone(Call::Count, rest)?,
+        Verb::Limit => alone(Call::Limit, rest)?,
+        Verb::Empty => alone(Call::Empty, rest)?,
+    };
+    Some(Request::Ask(call))
 }
 
 // The call, if nothing stands after its verb.
-fn alone(call: Call, rest: &[u8]) -> Option<Request>
+fn alone(call: Call, rest: &[u8]) -> Option<Call>
     ensures { result ≡ bare_of call (words_after rest.now) }
 {
-    match after_space(rest) {
-        Some(_) => None,
-        None => Some(Request::Ask(call)),
-    }
+    after_space(rest).is_none().then_some(call)
 }
 
 fn one_number(rest: &[u8]) -> Option<u64>
     ensures { result ≡ one_of (words_after rest.now) }
 {
-    match after_space(rest) {
-        Some(line) => whole_number(line),
-        None => None,
-    }
+    whole_number(after_space(rest)?)
 }
 
 fn two_numbers(rest: &[u8]) -> Option<(u64, u64)>
@@ -59,9 +54,7 @@ fn two_numbers(rest: &[u8]) -> Option<(u64, u64)>
 {
     let line = after_space(rest)?;
     let (word, rest) = cut(line);
-    let first = number(word)?;
-    let second = one_number(rest)?;
-    Some((first, second))
+    Some((number(word)?, one_number(rest)?))
 }
 
 fn opening(rest: &[u8]) -> Option<Request>
@@ -69,10 +62,9 @@ fn opening(rest: &[u8]) -> Option<Request>
 {
     let line = after_space(rest)?;
     let (word, more) = cut(line);
-    if is_word(word, b"front") {
-        shaped(true, after_space(more)?)
-    } else {
-        shaped(false, line)
+    match word {
+        b"front" => shaped(true, after_space(more)?),
+        _ => shaped(false, line),
     }
 }
 
@@ -82,8 +74,5 @@ fn shaped(front: bool, line: &[u8]) -> Option<Request>
     let (word, rest) = cut(line);
     let kind = kind_of(word)?;
     let limit = one_number(rest)?;
-    if limit > MOST {
-        return None;
-    }
-    Some(Request::Open(Opening { front, kind, limit }))
+    (limit <= MOST).then_some(Request::Open(Opening { front, kind, limit }))
 }

@@ -1,10 +1,13 @@
 // What is answered to a line, and how it is shown.
-ghost use Rattle.std.specs.Prelude.{Some};
+ghost use Rattle.std.specs.Prelude.{◌≡◌, Some};
+ghost use Rattle.calls.specs.Replies.{insert_reply, replace_reply, found_reply, front_reply};
 ghost use Rattle.calls.specs.Texts.{reply_text, numbered_text};
 
+use records::order::Order;
 use std::fmt;
+use store::refusal::{InsertRefusal, ReplaceRefusal};
 
-#[derive(Clone, Copy)]
+#[derive(Clone, Copy, PartialEq, Eq, Debug)]
 pub enum Reply {
     Opened(u64),
     Done,
@@ -21,6 +24,54 @@ pub enum Reply {
     NoFront,
     NoneOpen,
     Unknown,
+}
+
+impl From<Result<(), InsertRefusal>> for Reply {
+    ghost from_gives = { λ a r. r ≡ insert_reply a };
+
+    fn from(answer: Result<(), InsertRefusal>) -> Reply {
+        match answer {
+            Ok(()) => Reply::Done,
+            Err(InsertRefusal::Taken) => Reply::Taken,
+            Err(InsertRefusal::Full) => Reply::Full,
+        }
+    }
+}
+
+impl From<Result<(), ReplaceRefusal>> for Reply {
+    ghost from_gives = { λ a r. r ≡ replace_reply a };
+
+    fn from(answer: Result<(), ReplaceRefusal>) -> Reply {
+        match answer {
+            Ok(()) => Reply::Done,
+            Err(ReplaceRefusal::Missing) => Reply::Missing,
+        }
+    }
+}
+
+// An order that was found, removed or come to.
+impl From<Option<Order>> for Reply {
+    ghost from_gives = { λ a r. r ≡ found_reply a };
+
+    fn from(answer: Option<Order>) -> Reply {
+        match answer {
+            Some(order) => Reply::Found(order.id, order.shares),
+            None => Reply::Nothing,
+        }
+    }
+}
+
+// Whether a key stands in front, where there is a front.
+impl From<Option<bool>> for Reply {
+    ghost from_gives = { λ a r. r ≡ front_reply a };
+
+    fn from(answer: Option<bool>) -> Reply {
+        match answer {
+            Some(true) => Reply::Standing,
+            Some(false) => Reply::Absent,
+            None => Reply::NoFront,
+        }
+    }
 }
 
 impl fmt::Display for Reply {
@@ -47,7 +98,7 @@ impl fmt::Display for Reply {
 }
 
 // An answer with the number of the line that it answers.
-#[derive(Clone, Copy)]
+#[derive(Clone, Copy, PartialEq, Eq, Debug)]
 pub struct Numbered {
     pub number: u64,
     pub reply: Reply,

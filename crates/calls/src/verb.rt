@@ -3,7 +3,6 @@ ghost use Rattle.std.specs.Prelude.{◌≡◌};
 ghost use Rattle.calls.specs.Verbs.{verb_meant, kind_of};
 
 use crate::call::Kind;
-use crate::words::is_word;
 
 #[derive(Clone, Copy)]
 pub(crate) enum Verb {
@@ -22,39 +21,27 @@ pub(crate) enum Verb {
 pub(crate) fn verb_of(word: &[u8]) -> Option<Verb>
     ensures { result ≡ verb_meant word.now }
 {
-    if is_word(word, b"store") {
-        Some(Verb::Store)
-    } else if is_word(word, b"insert") {
-        Some(Verb::Insert)
-    } else if is_word(word, b"find") {
-        Some(Verb::Find)
-    } else if is_word(word, b"from") {
-        Some(Verb::From)
-    } else if is_word(word, b"replace") {
-        Some(Verb::Replace)
-    } else if is_word(word, b"remove") {
-        Some(Verb::Remove)
-    } else if is_word(word, b"stands") {
-        Some(Verb::Stands)
-    } else if is_word(word, b"count") {
-        Some(Verb::Count)
-    } else if is_word(word, b"limit") {
-        Some(Verb::Limit)
-    } else if is_word(word, b"empty") {
-        Some(Verb::Empty)
-    } else {
-        None
+    match word {
+        b"store" => Some(Verb::Store),
+        b"insert" => Some(Verb::Insert),
+        b"find" => Some(Verb::Find),
+        b"from" => Some(Verb::From),
+        b"replace" => Some(Verb::Replace),
+        b"remove" => Some(Verb::Remove),
+        b"stands" => Some(Verb::Stands),
+        b"count" => Some(Verb::Count),
+        b"limit" => Some(Verb::Limit),
+        b"empty" => Some(Verb::Empty),
+        _ => None,
     }
 }
 
 pub(crate) fn kind_of(word: &[u8]) -> Option<Kind>
     ensures { result ≡ kind_of word.now }
 {
-    if is_word(word, b"row") {
-        Some(Kind::Row)
-    } else if is_word(word, b"hashed") {
-        Some(Kind::Hashed)
-    } else {
-        None
+    match word {
+        b"row" => Some(Kind::Row),
+        b"hashed" => Some(Kind::Hashed),
+        _ => None,
     }
 }

@@ -1,14 +1,12 @@
 // The words of a line: what stands between its spaces.
 ghost use Rattle.std.specs.Prelude.{◌≡◌, ℕ, ◌<◌, ◌≤◌, [], ◌∷◌, length, MatchOption, ◌≢◌, slice_index};
-ghost use Rattle.std.specs.Str.{bytes_eq};
 ghost use Rattle.calls.specs.Words.{words, words_after};
 
 // The first word, and what stands after it with the space before that.
 pub(crate) fn cut(bytes: &[u8]) -> (&[u8], &[u8])
     ensures { words bytes.now ≡ result.0.now ∷ words_after result.1.now }
 {
-    let end = word_end(bytes);
-    (&bytes[0..end], &bytes[end..])
+    bytes.split_at(word_end(bytes))
 }
 
 // The place of the first space, or how many bytes there are where there is none.
@@ -17,27 +15,15 @@ fn word_end(bytes: &[u8]) -> usize
     ensures before { (k : ℕ) → k < result → slice_index bytes.now k ≢ 32 }
     ensures found { result < length bytes.now → slice_index bytes.now result ≡ 32 }
 {
-    for (place, byte) in bytes.iter().enumerate() {
-        if *byte == b' ' {
-            return place;
-        }
-    }
-    bytes.len()
+    bytes
+        .iter()
+        .position(|byte| *byte == b' ')
+        .unwrap_or(bytes.len())
 }
 
 // What stands after a space, if there is one.
 pub(crate) fn after_space(rest: &[u8]) -> Option<&[u8]>
     ensures { MatchOption result (words_after rest.now ≡ []) (λ x. words_after rest.now ≡ words x.now) }
 {
-    if rest.len() > 0 && rest[0] == b' ' {
-        Some(&rest[1..])
-    } else {
-        None
-    }
-}
-
-pub(crate) fn is_word(word: &[u8], name: &[u8]) -> bool
-    ensures { result ≡ bytes_eq word.now name.now }
-{
-    word == name
+    rest.strip_prefix(b" ")
 }

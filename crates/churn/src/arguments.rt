@@ -1,7 +1,7 @@
 // What the program is asked.
 use crate::kind::Kind;
 use crate::load::Load;
-use anyhow::{Context, anyhow};
+use anyhow::Context;
 use std::env;
 
 #[derive(Clone, Copy)]
@@ -24,13 +24,18 @@ pub struct Arguments {
 impl Arguments {
     // Whether loads are to be run on a store.
     pub fn names(&self, kind: Kind) -> bool {
-        self.store.as_str() == "all" || self.store.as_str() == kind.name()
+        asks(&self.store, kind.name())
     }
 
     // Whether a load is to be run.
     pub fn takes(&self, load: Load) -> bool {
-        self.load.as_str() == "all" || self.load.as_str() == load.name()
+        asks(&self.load, load.name())
     }
+}
+
+// Whether a word asks for what has a name.
+fn asks(word: &str, name: &str) -> bool {
+    word == "all" || word == name
 }
 
 pub fn read(rt: &HostRuntime) -> anyhow::Result<Arguments> {
@@ -52,8 +57,5 @@ pub fn read(rt: &HostRuntime) -> anyhow::Result<Arguments> {
 }
 
 fn number(word: Option<String>) -> anyhow::Result<u64> {
-    match word {
-        Some(text) => Ok(text.as_str().parse::<u64>()?),
-        None => Err(anyhow!("no size")),
-    }
+    Ok(word.context("no size")?.as_str().parse()?)
 }

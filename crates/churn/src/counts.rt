@@ -2,9 +2,10 @@
 use crate::feed::Feed;
 use crate::orders::{mixed, order_of};
 use records::order::Order;
+use std::fmt;
 use store::store::Store;
 
-#[derive(Clone, Copy)]
+#[derive(Clone, Copy, Default)]
 pub struct Counts {
     pub added: u64,
     pub refused: u64,
@@ -20,20 +21,6 @@ pub struct Counts {
 }
 
 impl Counts {
-    pub fn new() -> Counts {
-        Counts {
-            added: 0,
-            refused: 0,
-            removed: 0,
-            missed: 0,
-            sum: 0,
-            met: 0,
-            swept: 0,
-            kept: 0,
-            left: 0,
-        }
-    }
-
     // Adds the records that live at first.
     pub fn fill<S: Store<Order>>(&mut self, store: &mut S, feed: &mut Feed, live: &mut [u64]) {
         for place in live.iter_mut() {
@@ -74,5 +61,25 @@ impl Counts {
             }
             None => self.missed = self.missed.wrapping_add(1),
         }
+    }
+}
+
+impl fmt::Display for Counts {
+    fn fmt<W: fmt::Write>(&self, f: &mut fmt::Formatter<W>) -> fmt::Result {
+        let Counts {
+            added,
+            refused,
+            removed,
+            missed,
+            sum,
+            met,
+            swept,
+            kept,
+            left,
+        } = *self;
+        write!(
+            f,
+            "(added {added}) (refused {refused}) (removed {removed}) (missed {missed}) (sum {sum}) (met {met}) (swept {swept}) (kept {kept}) (left {left})"
+        )
     }
 }

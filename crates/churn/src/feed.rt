@@ -1,6 +1,7 @@
 // What a load adds and removes, in turn.
 use crate::load::Load;
 use crate::random::Random;
+use std::mem;
 
 #[derive(Clone, Copy)]
 pub struct Feed {
@@ -27,8 +28,7 @@ impl Feed {
                 .last
                 .wrapping_add(self.random.next() % 40)
                 .wrapping_add(1),
-            Load::Queue => self.last.wrapping_add(1),
-            Load::Rising => self.last.wrapping_add(1),
+            Load::Queue | Load::Rising => self.last.wrapping_add(1),
             Load::Scattered => self.random.next(),
         };
         self.last
@@ -41,9 +41,7 @@ impl Feed {
             return id;
         }
         let place = (self.next_death() % count as u64) as usize;
-        let old = live[place];
-        live[place] = id;
-        old
+        mem::replace(&mut live[place], id)
     }
 
     fn next_death(&mut self) -> u64 {

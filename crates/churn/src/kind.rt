@@ -1,5 +1,7 @@
 // The stores that can be loaded.
-#[derive(Clone, Copy)]
+use std::fmt;
+
+#[derive(Clone, Copy, PartialEq, Eq, Debug)]
 pub enum Kind {
     Row,
     Hashed,
@@ -17,5 +19,16 @@ impl Kind {
             Kind::FrontRow => "front-row",
             Kind::FrontHashed => "front-hashed",
         }
+    }
+
+    // Whether a front stands before the store.
+    pub fn has_front(&self) -> bool {
+        matches!(self, Kind::FrontRow | Kind::FrontHashed)
+    }
+}
+
+impl fmt::Display for Kind {
+    fn fmt<W: fmt::Write>(&self, f: &mut fmt::Formatter<W>) -> fmt::Result {
+        f.write_str(self.name())
     }
 }

@@ -1,5 +1,7 @@
 // The loads.
-#[derive(Clone, Copy)]
+use std::fmt;
+
+#[derive(Clone, Copy, PartialEq, Eq, Debug)]
 pub enum Load {
     // IDs that rise with gaps of 1 to 40, and die in random order
     Gaps,
@@ -21,5 +23,11 @@ impl Load {
             Load::Rising => "rising",
             Load::Scattered => "scattered",
         }
+    }
+}
+
+impl fmt::Display for Load {
+    fn fmt<W: fmt::Write>(&self, f: &mut fmt::Formatter<W>) -> fmt::Result {
+        f.write_str(self.name())
     }
 }

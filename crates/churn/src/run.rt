@@ -8,7 +8,6 @@ use crate::load::{LOADS, Load};
 use crate::watch::Watch;
 use front_row::front_row::FrontRow;
 use hashed_store::hashed::HashedStore;
-use hashed_store::slot::Slot;
 use records::order::Order;
 use row_store::row::RowStore;
 use std::io;
@@ -39,39 +38,48 @@ fn run_kind(
     live: &mut [u64],
     asked: &Arguments,
 ) -> anyhow::Result<()> {
-    let name = kind.name();
-    println!(rt; "(store {name})")?;
+    println!(rt; "(store {kind})")?;
     let slots = asked.sizes.slots;
     match kind {
-        Kind::Row => {
+        Kind::Row | Kind::FrontRow => {
             let mut rows = vec![in rt.alloc(); Order::BLANK; slots]?;
-            run_loads(rt, RowStore::new(rows.as_mut_slice()), live, asked)?;
+            run_over(rt, kind, RowStore::new(rows.as_mut_slice()), live, asked)?;
         }
-        Kind::Hashed => {
-            let mut slots = vec![in rt.alloc(); Slot::Empty; slots]?;
-            run_loads(rt, HashedStore::new(slots.as_mut_slice()), live, asked)?;
-        }
-        Kind::FrontRow => {
-            let mut rows = vec![in rt.alloc(); Order::BLANK; slots]?;
-            let below = RowStore::new(rows.as_mut_slice());
-            run_loads(rt, FrontRow::new(below), live, asked)?;
-        }
-        Kind::FrontHashed => {
-            let mut slots = vec![in rt.alloc(); Slot::Empty; slots]?;
-            let below = HashedStore::new(slots.as_mut_slice());
-            run_loads(rt, FrontRow::new(below), live, asked)?;
+        Kind::Hashed | Kind::FrontHashed => {
+            let mut slots = vec![in rt.alloc(); None; slots]?;
+            run_over(
+                rt,
+                kind,
+                HashedStore::new(slots.as_mut_slice()),
+                live,
+                asked,
+            )?;
         }
     }
     Ok(())
 }
 
-fn run_loads<S: Store<Order> + Drop>(
+// Behind a front, or plain.
+fn run_over<S: Store<Order> + Drop>(
     rt: &HostRuntime,
-    store: S,
+    kind: Kind,
+    below: S,
     live: &mut [u64],
     asked: &Arguments,
 ) -> io::Result<()> {
-    let mut store = store;
+    if kind.has_front() {
+        run_loads(rt, FrontRow::new(below), live, asked)
+    } else {
+        run_loads(rt, below, live, asked)
+    }
+}
+
+fn run_loads<S: Store<Order> + Drop>(
+    rt: &HostRuntime,
+    mut store: S,
+    live: &mut [u64],
+    asked: &Arguments,
+) -> io::Result<()> {
     for load in LOADS {
         if asked.takes(load) {
             run_load(rt, load, &mut store, live, asked)?;
@@ -88,7 +96,7 @@ fn run_load<S: Store<Order>>(
     asked: &Arguments,
 ) -> io::Result<()> {
     let mut feed = Feed::new(load);
-    let mut counts = Counts::new();
+    let mut counts = Counts::default();
     store.empty();
     let mut watch = Watch::new(rt, asked.timed)?;
     counts.fill(store, &mut feed, live);
@@ -100,7 +108,7 @@ fn run_load<S: Store<Order>>(
         watch.lap(rt, "churn", part * 2)?;
     }
     walk_and_sweep(rt, store, &mut counts, &mut watch)?;
-    show(rt, load, &counts)
+    println!(rt; "({load} {counts})")
 }
 
 // Walks over what is held, sweeps, walks again, and once more when the store is emptied.
@@ -120,20 +128,4 @@ fn walk_and_sweep<S: Store<Order>>(
     watch.lap(rt, "empty", 1)?;
     counts.left = walk(store, &Counting).number;
     watch.lap(rt, "walk-emptied", counts.left)
-}
-
-fn show(rt: &HostRuntime, load: Load, counts: &Counts) -> io::Result<()> {
-    let name = load.name();
-    let added = counts.added;
-    let refused = counts.refused;
-    let removed = counts.removed;
-    let missed = counts.missed;
-    let sum = counts.sum;
-    let met = counts.met;
-    let swept = counts.swept;
-    let kept = counts.kept;
-    let left = counts.left;
-    println!(rt;
-        "({name} (added {added}) (refused {refused}) (removed {removed}) (missed {missed}) (sum {sum}) (met {met}) (swept {swept}) (kept {kept}) (left {left}))"
-    )
 }

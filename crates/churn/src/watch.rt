@@ -4,26 +4,24 @@ use std::time::Instant;
 
 #[derive(Clone, Copy)]
 pub struct Watch {
-    asked: bool,
-    start: Instant,
+    // where the times are asked for
+    start: Option<Instant>,
 }
 
 impl Watch {
     pub fn new(rt: &HostRuntime, asked: bool) -> io::Result<Watch> {
-        Ok(Watch {
-            asked,
-            start: Instant::now(rt)?,
-        })
+        let start = if asked { Some(Instant::now(rt)?) } else { None };
+        Ok(Watch { start })
     }
 
     // Prints how long the calls since the last one took, and starts anew.
     pub fn lap(&mut self, rt: &HostRuntime, part: &str, calls: u64) -> io::Result<()> {
-        if !self.asked {
+        let Some(start) = self.start else {
             return Ok(());
-        }
-        let nanos = self.start.elapsed(rt)?.as_nanos();
+        };
+        let nanos = start.elapsed(rt)?.as_nanos();
         println!(rt; "(took {part} (calls {calls}) (ns {nanos}))")?;
-        self.start = Instant::now(rt)?;
+        self.start = Some(Instant::now(rt)?);
         Ok(())
     }
 }

@@ -1,51 +1,44 @@
 -- One step of closing a hole, and the end of it.
-use Rattle.std.proofs.Common.{◌≡◌, ℕ, ◌<◌, ◌≤◌, List, length, set, sym, refl, ◌∙◌, arith, length-set, get_or-set_other, get_or-set_same}
-use Rattle.hashed_store.specs.declared.slot.Slot.{Slot}
-use Rattle.hashed_store.specs.declared.slot.Slot.TheVariants.{Empty, Held}
+use Rattle.std.proofs.Common.{◌≡◌, ℕ, ◌<◌, ◌≤◌, List, length, set, sym, refl, ◌∙◌, arith, length-set, get_or-set_other, get_or-set_same, Some, None, Option}
 use Rattle.hashed_store.specs.Rounds.{offset}
 use Rattle.hashed_store.specs.Slots.{held, sorted, slot_at, strayed}
-use Rattle.hashed_store.specs.Looks.{Over}
 use Rattle.hashed_store.specs.Holes.{OverHole, NoneOver, Kept, Holed}
 use Rattle.hashed_store.proofs.Sorted.{rising-sorted}
-use Rattle.hashed_store.proofs.Held.{taken_out, put_in}
+use Rattle.hashed_store.proofs.Held.{record_of, taken_out, put_in}
 use Rattle.hashed_store.proofs.Meeting.{met-moved, met-closed, none_over}
 use Rattle.hashed_store.proofs.Spread.{spread, spread-falls}
 
 module _ {X : Type 0} (key : X → ℕ) where
   -- the slots after the record at i has moved into the hole h
-  pub moved : List (Slot X) → ℕ → ℕ → List (Slot X)
-  moved ss i h = set (set ss i Empty) h (slot_at ss i)
+  pub moved : List (Option X) → ℕ → ℕ → List (Option X)
+  moved ss i h = set (set ss i None) h (slot_at ss i)
 
-  held_of : (s : Slot X) (n i u : ℕ) → Over key n u i s → (r : X) × ((s ≡ Held r) × (u ≤ strayed key n i r))
-  held_of Empty n i u o = absurd o
-  held_of (Held r) n i u o = (r, (refl, o))
-
-  pub moving-falls : (ss : List (Slot X)) (h i : ℕ) → h < length ss → OverHole key ss h i
-      → spread key (length ss) 0 (set (set ss i Empty) h (slot_at ss i)) < spread key (length ss) 0 ss
+  pub moving-falls : (ss : List (Option X)) (h i : ℕ) → h < length ss → OverHole key ss h i
+      → spread key (length ss) 0 (set (set ss i None) h (slot_at ss i)) < spread key (length ss) 0 ss
   moving-falls ss h i lh o =
-      let f = held_of (slot_at ss i) (length ss) i (offset (length ss) h i) o.over in
+      let f = record_of (λ r. offset (length ss) h i ≤ strayed key (length ss) i r) (slot_at ss i) o.over in
       rw f.1.0 (spread-falls key (length ss) ss h i f.0 refl lh o.inside o.apart f.1.0 f.1.1)
 
-  pub record Step (ss is : List (Slot X)) (reach i : ℕ) : Type 0 where
+  pub record Step (ss is : List (Option X)) (reach i : ℕ) : Type 0 where
     pub holed : Holed key is reach i
     pub rows : sorted key (held is) ≡ sorted key (held ss)
     pub count : length (held is) ≡ length (held ss)
 
-  pub moving-keeps : (ss : List (Slot X)) (reach h i : ℕ) → h < length ss → OverHole key ss h i → Holed key ss reach h
-      → Step ss (set (set ss i Empty) h (slot_at ss i)) reach i
+  pub moving-keeps : (ss : List (Option X)) (reach h i : ℕ) → h < length ss → OverHole key ss h i → Holed key ss reach h
+      → Step ss (set (set ss i None) h (slot_at ss i)) reach i
   moving-keeps ss reach h i lh o was =
-      let f = held_of (slot_at ss i) (length ss) i (offset (length ss) h i) o.over in
+      let f = record_of (λ r. offset (length ss) h i ≤ strayed key (length ss) i r) (slot_at ss i) o.over in
       let r : X = f.0 in
       let out = taken_out key ss i r o.inside f.1.0 was.apart in
       let away : h ≡ i → ⊥ = λ e. o.apart (sym e) in
-      let sh : h < length (set ss i Empty) = simp length-set lh in
-      let empty : slot_at (set ss i Empty) h ≡ Empty = get_or-set_other ss i h Empty Empty away ∙ was.hole in
-      let put = put_in key (set ss i Empty) h r sh empty out.absent out.apart in
+      let sh : h < length (set ss i None) = simp length-set lh in
+      let empty : slot_at (set ss i None) h ≡ None = get_or-set_other ss i h None None away ∙ was.hole in
+      let put = put_in key (set ss i None) h r sh empty out.absent out.apart in
       let some : 0 < length ss = omega arith in
-      let lens : length (set (set ss i Empty) h (Held r)) ≡ length ss = simp length-set in
+      let lens : length (set (set ss i None) h (Some r)) ≡ length ss = simp length-set in
       rw f.1.0 (record {
         holed = record {
-          hole = get_or-set_other (set ss i Empty) h i (Held r) Empty o.apart ∙ get_or-set_same ss i Empty Empty o.inside;
+          hole = get_or-set_other (set ss i None) h i (Some r) None o.apart ∙ get_or-set_same ss i None None o.inside;
           apart = put.apart;
           met = rw lens (met-moved key (length ss) some ss reach h i r refl lh o.inside o.apart f.1.0 f.1.1 was.met);
         };
@@ -53,7 +46,7 @@ module _ {X : Type 0} (key : X → ℕ) where
         count = put.greater ∙ sym out.fewer;
       })
 
-  pub closed-ends : (ss : List (Slot X)) (reach h u : ℕ) → h < length ss → NoneOver key ss h reach u → Holed key ss reach h → Kept key ss reach
+  pub closed-ends : (ss : List (Option X)) (reach h u : ℕ) → h < length ss → NoneOver key ss h reach u → Holed key ss reach h → Kept key ss reach
   closed-ends ss reach h u lh o was =
       let some : 0 < length ss = omega arith in
       record {

@@ -1,39 +1,32 @@
 -- Every record stays where a search from its home meets it, whatever is put in, taken out or moved into a hole.
-use Rattle.std.proofs.Common.{◌≡◌, ℕ, ◌+◌, ◌-◌, ◌<◌, ◌≤◌, ◌≢◌, ◌⊎◌, List, length, set, sym, ap, ◌∙◌, subst, inl, inr, ⊎_elim, mod-lt, arith, length-set, get_or-set_other, get_or-set_same}
+use Rattle.std.proofs.Common.{◌≡◌, ℕ, ◌+◌, ◌-◌, ◌<◌, ◌≤◌, ◌≢◌, ◌⊎◌, List, length, set, sym, ap, ◌∙◌, subst, ⊎_elim, mod-lt, arith, rules, length-set, get_or-set_other, get_or-set_same, Some, None, Option}
 use Rattle.std.proofs.lemmas.Bool.{cases_eq, cases_lt}
 use Rattle.store.proofs.Each.{Absent}
-use Rattle.hashed_store.specs.declared.slot.Slot.{Slot}
-use Rattle.hashed_store.specs.declared.slot.Slot.TheVariants.{Empty, Held}
 use Rattle.hashed_store.specs.Rounds.{around, offset}
 use Rattle.hashed_store.specs.Slots.{held, slot_at, home_of, strayed, Met, AllMet, NoHole, HoleAt, Passed, NotOver, Short}
 use Rattle.hashed_store.proofs.Rounds.{around-below, offset-below, around-offset, offset-around, offset-rest, offset-back, around-on, offset-other, offset-self}
 use Rattle.hashed_store.proofs.Held.{each-held}
 
 module _ {X : Type 0} where
-  held-empty : {s : Slot X} {r : X} → s ≡ Held r → s ≡ Empty → ⊥
-  held-empty e f = let z : ◌≡◌ {A = ℕ} 0 1 = cc in omega arith
+  held-empty : {s : Option X} {r : X} → s ≡ Some r → s ≡ None → ⊥
+  held-empty e f = cc
 
   -- a slot of those after one was filled
-  filled-empty : (ss : List (Slot X)) (i : ℕ) (r : X) (p : ℕ) → i < length ss → slot_at (set ss i (Held r)) p ≡ Empty → (p ≢ i) × (slot_at ss p ≡ Empty)
-  filled-empty ss i r p l e =
-      let n : p ≢ i = λ q. held-empty (get_or-set_same ss i (Held r) Empty l) (rw q at e) in
-      (n, sym (get_or-set_other ss i p (Held r) Empty n) ∙ e)
+  filled-empty : (ss : List (Option X)) (i : ℕ) (r : X) (p : ℕ) → i < length ss → slot_at (set ss i (Some r)) p ≡ None → (p ≢ i) × (slot_at ss p ≡ None)
+  filled-empty ss i r p l e = search rules
 
   -- and after one was emptied
-  emptied-empty : (ss : List (Slot X)) (i p : ℕ) → slot_at (set ss i Empty) p ≡ Empty → (p ≡ i) ⊎ (slot_at ss p ≡ Empty)
-  emptied-empty ss i p e =
-      ⊎_elim (λ q. inl q) (λ q. inr (sym (get_or-set_other ss i p Empty Empty q) ∙ e)) (cases_eq p i)
+  emptied-empty : (ss : List (Option X)) (i p : ℕ) → slot_at (set ss i None) p ≡ None → (p ≡ i) ⊎ (slot_at ss p ≡ None)
+  emptied-empty ss i p e = search rules
 
-  emptied-held : (ss : List (Slot X)) (i p : ℕ) (r : X) → i < length ss → slot_at (set ss i Empty) p ≡ Held r → (p ≢ i) × (slot_at ss p ≡ Held r)
-  emptied-held ss i p r l e =
-      let n : p ≢ i = λ q. held-empty (rw q at e) (get_or-set_same ss i Empty Empty l) in
-      (n, sym (get_or-set_other ss i p Empty Empty n) ∙ e)
+  emptied-held : (ss : List (Option X)) (i p : ℕ) (r : X) → i < length ss → slot_at (set ss i None) p ≡ Some r → (p ≢ i) × (slot_at ss p ≡ Some r)
+  emptied-held ss i p r l e = search rules
 
   -- and after a record was moved from j to h
-  moved-empty : (ss : List (Slot X)) (h j : ℕ) (r : X) (p : ℕ) → h < length (set ss j Empty) → slot_at (set (set ss j Empty) h (Held r)) p ≡ Empty
-      → (p ≢ h) × ((p ≡ j) ⊎ (slot_at ss p ≡ Empty))
+  moved-empty : (ss : List (Option X)) (h j : ℕ) (r : X) (p : ℕ) → h < length (set ss j None) → slot_at (set (set ss j None) h (Some r)) p ≡ None
+      → (p ≢ h) × ((p ≡ j) ⊎ (slot_at ss p ≡ None))
   moved-empty ss h j r p l e =
-      let g = filled-empty (set ss j Empty) h r p l e in
+      let g = filled-empty (set ss j None) h r p l e in
       (g.0, emptied-empty ss j p g.1)
 
 module _ {X : Type 0} (key : X → ℕ) (n : ℕ) (some : 0 < n) where
@@ -41,45 +34,45 @@ module _ {X : Type 0} (key : X → ℕ) (n : ℕ) (some : 0 < n) where
   home_below k = mod-lt k some
 
   -- filling an empty slot, the t-th of the way of its record
-  pub met-in : (ss : List (Slot X)) (reach farther : ℕ) (i t : ℕ) (r : X)
+  pub met-in : (ss : List (Option X)) (reach farther : ℕ) (i t : ℕ) (r : X)
       → length ss ≡ n → reach ≤ farther → t ≤ farther → t < n → i ≡ around n (home_of n (key r)) t
-      → ((s : ℕ) → s < t → slot_at ss (around n (home_of n (key r)) s) ≡ Empty → ⊥)
-      → AllMet key n ss reach NoHole → AllMet key n (set ss i (Held r)) farther NoHole
+      → ((s : ℕ) → s < t → slot_at ss (around n (home_of n (key r)) s) ≡ None → ⊥)
+      → AllMet key n ss reach NoHole → AllMet key n (set ss i (Some r)) farther NoHole
   met-in ss reach farther i t r size more far tn place clear met p x l e =
       let li : i < length ss = rw (size, place) (around-below n (home_of n (key r)) t (home_below (key r)) tn) in
       ⊎_elim
       (λ q.
-      let same : r ≡ x = let a = get_or-set_same ss i (Held r) Empty li in let b = rw q at e in cc in
+      let same : r ≡ x = let a = get_or-set_same ss i (Some r) None li in let b = rw q at e in cc in
       let off : strayed key n p r ≡ t = ap (λ z. strayed key n z r) (q ∙ place) ∙ offset-around n (home_of n (key r)) t (home_below (key r)) tn in
-      let m : Met key n (set ss i (Held r)) farther NoHole p r =
+      let m : Met key n (set ss i (Some r)) farther NoHole p r =
       record { near = omega arith; way = λ s h f. clear s (omega arith) (filled-empty ss i r (around n (home_of n (key r)) s) li f).1 } in
-      subst (λ y. Met key n (set ss i (Held r)) farther NoHole p y) same m)
+      subst (λ y. Met key n (set ss i (Some r)) farther NoHole p y) same m)
       (λ q.
-      let old = met p x l (sym (get_or-set_other ss i p (Held r) Empty q) ∙ e) in
+      let old = met p x l (sym (get_or-set_other ss i p (Some r) None q) ∙ e) in
       let near : strayed key n p x ≤ reach = old.near in
       record { near = omega arith; way = λ s h f. old.way s h (filled-empty ss i r (around n (home_of n (key x)) s) li f).1 })
       (cases_eq p i)
 
   -- another record with the same key in the place of one
-  pub met-exchanged : (ss : List (Slot X)) (reach i : ℕ) (q r : X) → length ss ≡ n → i < n → slot_at ss i ≡ Held q → key q ≡ key r
-      → AllMet key n ss reach NoHole → AllMet key n (set ss i (Held r)) reach NoHole
+  pub met-exchanged : (ss : List (Option X)) (reach i : ℕ) (q r : X) → length ss ≡ n → i < n → slot_at ss i ≡ Some q → key q ≡ key r
+      → AllMet key n ss reach NoHole → AllMet key n (set ss i (Some r)) reach NoHole
   met-exchanged ss reach i q r size li was same met p x l e =
       let ls : i < length ss = rw size li in
       ⊎_elim
       (λ z.
-      let rx : r ≡ x = let a = get_or-set_same ss i (Held r) Empty ls in let b = rw z at e in cc in
+      let rx : r ≡ x = let a = get_or-set_same ss i (Some r) None ls in let b = rw z at e in cc in
       let old = rw same at (met i q li was).near in
       let way = (met i q li was).way in
-      let m : Met key n (set ss i (Held r)) reach NoHole i r =
+      let m : Met key n (set ss i (Some r)) reach NoHole i r =
       record { near = old; way = λ s h f. way s (rw same h) (rw same (filled-empty ss i r (around n (home_of n (key r)) s) ls f).1) } in
-      let k = subst (λ y. Met key n (set ss i (Held r)) reach NoHole i y) rx m in rw z k)
+      let k = subst (λ y. Met key n (set ss i (Some r)) reach NoHole i y) rx m in rw z k)
       (λ z.
-      let old = met p x l (sym (get_or-set_other ss i p (Held r) Empty z) ∙ e) in
+      let old = met p x l (sym (get_or-set_other ss i p (Some r) None z) ∙ e) in
       record { near = old.near; way = λ s h f. old.way s h (filled-empty ss i r (around n (home_of n (key x)) s) ls f).1 })
       (cases_eq p i)
 
   -- emptying a slot makes a hole
-  pub met-out : (ss : List (Slot X)) (reach i : ℕ) → length ss ≡ n → i < n → AllMet key n ss reach NoHole → AllMet key n (set ss i Empty) reach (HoleAt i)
+  pub met-out : (ss : List (Option X)) (reach i : ℕ) → length ss ≡ n → i < n → AllMet key n ss reach NoHole → AllMet key n (set ss i None) reach (HoleAt i)
   met-out ss reach i size li met p x l e =
       let ls : i < length ss = rw size li in
       let old = met p x l (emptied-held ss i p x ls e).1 in
@@ -89,29 +82,29 @@ module _ {X : Type 0} (key : X → ℕ) (n : ℕ) (some : 0 < n) where
       }
 
   -- a record whose way goes over the hole moves into it, and its old slot is the hole
-  pub met-moved : (ss : List (Slot X)) (reach h j : ℕ) (r : X) → length ss ≡ n → h < n → j < n → (j ≡ h → ⊥) → slot_at ss j ≡ Held r
+  pub met-moved : (ss : List (Option X)) (reach h j : ℕ) (r : X) → length ss ≡ n → h < n → j < n → (j ≡ h → ⊥) → slot_at ss j ≡ Some r
       → offset n h j ≤ strayed key n j r
-      → AllMet key n ss reach (HoleAt h) → AllMet key n (set (set ss j Empty) h (Held r)) reach (HoleAt j)
+      → AllMet key n ss reach (HoleAt h) → AllMet key n (set (set ss j None) h (Some r)) reach (HoleAt j)
   met-moved ss reach h j r size lh lj apart from over met p x l e =
       let sj : j < length ss = rw size lj in
-      let sh : h < length (set ss j Empty) = simp length-set (rw size lh) in
+      let sh : h < length (set ss j None) = simp length-set (rw size lh) in
       let gone = λ (q : ℕ). moved-empty ss h j r q sh in
       ⊎_elim
       (λ z.
-      let rx : r ≡ x = let a = get_or-set_same (set ss j Empty) h (Held r) Empty sh in let b = rw z at e in cc in
+      let rx : r ≡ x = let a = get_or-set_same (set ss j None) h (Some r) None sh in let b = rw z at e in cc in
       let old = met j r lj from in
       let less : strayed key n h r ≡ strayed key n j r - offset n h j = offset-back n (home_of n (key r)) h j (home_below (key r)) lh lj over in
       let near : strayed key n j r ≤ reach = old.near in
-      let m : Met key n (set (set ss j Empty) h (Held r)) reach (HoleAt j) h r =
+      let m : Met key n (set (set ss j None) h (Some r)) reach (HoleAt j) h r =
       record {
         near = omega arith;
         way = λ s u f.
             let g = gone (around n (home_of n (key r)) s) f in
             ⊎_elim (λ q. q) (λ q. absurd (g.0 (old.way s (omega arith) q))) g.1;
       } in
-      let k = subst (λ y. Met key n (set (set ss j Empty) h (Held r)) reach (HoleAt j) h y) rx m in rw z k)
+      let k = subst (λ y. Met key n (set (set ss j None) h (Some r)) reach (HoleAt j) h y) rx m in rw z k)
       (λ z.
-      let was = emptied-held ss j p x sj (sym (get_or-set_other (set ss j Empty) h p (Held r) Empty z) ∙ e) in
+      let was = emptied-held ss j p x sj (sym (get_or-set_other (set ss j None) h p (Some r) None z) ∙ e) in
       let old = met p x l was.1 in
       record {
         near = old.near;
@@ -122,8 +115,8 @@ module _ {X : Type 0} (key : X → ℕ) (n : ℕ) (some : 0 < n) where
       (cases_eq p h)
 
   -- where no way goes over the hole, there is none
-  pub met-closed : (ss : List (Slot X)) (reach h : ℕ) → h < n
-      → ((i : ℕ) (r : X) → i < n → slot_at ss i ≡ Held r → offset n h i ≤ strayed key n i r → ⊥)
+  pub met-closed : (ss : List (Option X)) (reach h : ℕ) → h < n
+      → ((i : ℕ) (r : X) → i < n → slot_at ss i ≡ Some r → offset n h i ≤ strayed key n i r → ⊥)
       → AllMet key n ss reach (HoleAt h) → AllMet key n ss reach NoHole
   met-closed ss reach h lh clear met i r l e =
       let old = met i r l e in
@@ -138,8 +131,8 @@ module _ {X : Type 0} (key : X → ℕ) (n : ℕ) (some : 0 < n) where
       }
 
   -- a search that met only other keys, and then an empty slot or as many slots as any record strays, has met all there are
-  not-met : (ss : List (Slot X)) (reach k t : ℕ) → length ss ≡ n → Passed key n ss k t
-      → ((d : ℕ) → t ≤ d → d ≤ reach → d < n → ((s : ℕ) → s < d → slot_at ss (around n (home_of n k) s) ≡ Empty → ⊥) → (r : X) → slot_at ss (around n (home_of n k) d) ≡ Held r → ⊥)
+  not-met : (ss : List (Option X)) (reach k t : ℕ) → length ss ≡ n → Passed key n ss k t
+      → ((d : ℕ) → t ≤ d → d ≤ reach → d < n → ((s : ℕ) → s < d → slot_at ss (around n (home_of n k) s) ≡ None → ⊥) → (r : X) → slot_at ss (around n (home_of n k) d) ≡ Some r → ⊥)
       → AllMet key n ss reach NoHole → Absent key k (held ss)
   not-met ss reach k t size passed beyond met =
       each-held (λ x. key x ≡ k → ⊥) ss (λ i r l e same.
@@ -147,13 +140,13 @@ module _ {X : Type 0} (key : X → ℕ) (n : ℕ) (some : 0 < n) where
       let m = met i r ln e in
       let d : ℕ = strayed key n i r in
       let here : around n (home_of n (key r)) d ≡ i = around-offset n (home_of n (key r)) i (home_below (key r)) ln in
-      let found : slot_at ss (around n (home_of n k) d) ≡ Held r = rw (← same) (rw here e) in
+      let found : slot_at ss (around n (home_of n k) d) ≡ Some r = rw (← same) (rw here e) in
       ⊎_elim
       (λ u. (rw found at (passed d u)) same)
       (λ u. beyond d u m.near (offset-below n (home_of n (key r)) i (home_below (key r)) ln) (λ s v f. m.way s v (rw same f)) r found)
       (cases_lt d t))
 
-  pub absent-gap : (ss : List (Slot X)) (reach k t : ℕ) → length ss ≡ n → Passed key n ss k t → slot_at ss (around n (home_of n k) t) ≡ Empty
+  pub absent-gap : (ss : List (Option X)) (reach k t : ℕ) → length ss ≡ n → Passed key n ss k t → slot_at ss (around n (home_of n k) t) ≡ None
       → AllMet key n ss reach NoHole → Absent key k (held ss)
   absent-gap ss reach k t size passed gap met =
       not-met ss reach k t size passed
@@ -161,7 +154,7 @@ module _ {X : Type 0} (key : X → ℕ) (n : ℕ) (some : 0 < n) where
       ⊎_elim (λ m. clear t m gap) (λ m. let same : d ≡ t = omega arith in held-empty e (rw same gap)) (cases_lt t d))
       met
 
-  pub absent-past : (ss : List (Slot X)) (reach k t : ℕ) → length ss ≡ n → Passed key n ss k t → (reach < t) ⊎ (n ≤ t)
+  pub absent-past : (ss : List (Option X)) (reach k t : ℕ) → length ss ≡ n → Passed key n ss k t → (reach < t) ⊎ (n ≤ t)
       → AllMet key n ss reach NoHole → Absent key k (held ss)
   absent-past ss reach k t size passed far met =
       not-met ss reach k t size passed
@@ -170,11 +163,11 @@ module _ {X : Type 0} (key : X → ℕ) (n : ℕ) (some : 0 < n) where
 
   -- a search on from the hole that met only records whose way does not go over it, and then an empty slot or as many slots
   -- as any record strays: no way goes over the hole
-  pub none_over : (ss : List (Slot X)) (reach h u : ℕ) → h < n → slot_at ss h ≡ Empty → 0 < u
+  pub none_over : (ss : List (Option X)) (reach h u : ℕ) → h < n → slot_at ss h ≡ None → 0 < u
       → Short key n ss h u
-      → (reach < u) ⊎ ((n ≤ u) ⊎ (slot_at ss (around n h u) ≡ Empty))
+      → (reach < u) ⊎ ((n ≤ u) ⊎ (slot_at ss (around n h u) ≡ None))
       → AllMet key n ss reach (HoleAt h)
-      → (i : ℕ) (r : X) → i < n → slot_at ss i ≡ Held r → offset n h i ≤ strayed key n i r → ⊥
+      → (i : ℕ) (r : X) → i < n → slot_at ss i ≡ Some r → offset n h i ≤ strayed key n i r → ⊥
   none_over ss reach h u lh hole pos short stop met i r l e over =
       let m = met i r l e in
       let s : ℕ = offset n h i in
@@ -186,7 +179,7 @@ module _ {X : Type 0} (key : X → ℕ) (n : ℕ) (some : 0 < n) where
       let within : strayed key n i r < n = offset-below n (home_of n (key r)) i (home_below (key r)) l in
       ⊎_elim
       (λ b.
-      let k : NotOver key n s i (Held r) = rw (here, e) at (short s first b) in
+      let k : NotOver key n s i (Some r) = rw (here, e) at (short s b first) in
       omega arith)
       (λ b.
       ⊎_elim (λ c. omega arith)

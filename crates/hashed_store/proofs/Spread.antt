@@ -1,22 +1,20 @@
 -- How far all records have strayed together: a record that moves back into a hole makes it less, so that moving ends.
-use Rattle.std.proofs.Common.{◌≡◌, ℕ, zero, suc, ◌+◌, ◌<◌, ◌≤◌, List, [], ◌∷◌, length, set, add-zero, add-suc, mod-lt, suc-add, zero-add, arith, length-set}
-use Rattle.hashed_store.specs.declared.slot.Slot.{Slot}
-use Rattle.hashed_store.specs.declared.slot.Slot.TheVariants.{Empty, Held}
+use Rattle.std.proofs.Common.{◌≡◌, ℕ, zero, suc, ◌+◌, ◌<◌, ◌≤◌, List, [], ◌∷◌, length, set, add-zero, add-suc, mod-lt, suc-add, zero-add, arith, length-set, Some, None, Option}
 use Rattle.hashed_store.specs.Rounds.{offset}
 use Rattle.hashed_store.specs.Slots.{slot_at, home_of, strayed}
 use Rattle.hashed_store.proofs.Rounds.{offset-back, offset-other}
 
 module _ {X : Type 0} (key : X → ℕ) (n : ℕ) where
-  strayed_in : ℕ → Slot X → ℕ
-  strayed_in i Empty = 0
-  strayed_in i (Held r) = strayed key n i r
+  strayed_in : ℕ → Option X → ℕ
+  strayed_in i None = 0
+  strayed_in i (Some r) = strayed key n i r
 
   -- of the slots from the place b on
-  pub spread : ℕ → List (Slot X) → ℕ
+  pub spread : ℕ → List (Option X) → ℕ
   spread b [] = 0
   spread b (s ∷ ss) = strayed_in b s + spread (suc b) ss
 
-  spread-set : (b : ℕ) (ss : List (Slot X)) (j : ℕ) (s : Slot X) → j < length ss → spread b (set ss j s) + strayed_in (b + j) (slot_at ss j) ≡ spread b ss + strayed_in (b + j) s
+  spread-set : (b : ℕ) (ss : List (Option X)) (j : ℕ) (s : Option X) → j < length ss → spread b (set ss j s) + strayed_in (b + j) (slot_at ss j) ≡ spread b ss + strayed_in (b + j) s
   unfolding spread
   spread-set b [] j s h = absurd (omega arith)
   spread-set b (q ∷ ss) zero s h = simp add-zero (omega arith)
@@ -25,8 +23,8 @@ module _ {X : Type 0} (key : X → ℕ) (n : ℕ) where
       let e = rw suc-add at (spread-set (suc b) ss j s l) in
       simp add-suc (omega arith)
 
-  pub spread-falls : (ss : List (Slot X)) (h j : ℕ) (r : X) → length ss ≡ n → h < n → j < n → (j ≡ h → ⊥) → slot_at ss j ≡ Held r
-      → offset n h j ≤ strayed key n j r → spread 0 (set (set ss j Empty) h (Held r)) < spread 0 ss
+  pub spread-falls : (ss : List (Option X)) (h j : ℕ) (r : X) → length ss ≡ n → h < n → j < n → (j ≡ h → ⊥) → slot_at ss j ≡ Some r
+      → offset n h j ≤ strayed key n j r → spread 0 (set (set ss j None) h (Some r)) < spread 0 ss
   unfolding strayed_in
   spread-falls ss h j r size lh lj apart from over =
       let some : 0 < n = omega arith in
@@ -34,7 +32,7 @@ module _ {X : Type 0} (key : X → ℕ) (n : ℕ) where
       let less = offset-back n (home_of n (key r)) h j home lh lj over in
       let pos = offset-other n h j lh lj apart in
       let sj : j < length ss = rw size lj in
-      let sh : h < length (set ss j Empty) = simp length-set (rw size lh) in
-      let one = rw (zero-add, from) at (spread-set 0 ss j Empty sj) in
-      let two = rw zero-add at (spread-set 0 (set ss j Empty) h (Held r) sh) in
+      let sh : h < length (set ss j None) = simp length-set (rw size lh) in
+      let one = rw (zero-add, from) at (spread-set 0 ss j None sj) in
+      let two = rw zero-add at (spread-set 0 (set ss j None) h (Some r) sh) in
       omega arith

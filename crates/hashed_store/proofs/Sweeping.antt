@@ -1,10 +1,8 @@
 -- Sweeping the slots, one picked record after another.
-use Rattle.std.proofs.Common.{◌≡◌, ℕ, suc, ◌<◌, ◌≤◌, Bool, true, false, List, [], ◌∷◌, map, length, sym, refl, ap, ◌∙◌, arith}
+use Rattle.std.proofs.Common.{◌≡◌, ℕ, suc, ◌<◌, ◌≤◌, Bool, true, false, List, [], ◌∷◌, map, length, sym, ap, ◌∙◌, arith, Some, Option}
 use Rattle.tally.specs.Joining.{joined_all}
 use Rattle.store.specs.Lists.{Each, those, others}
 use Rattle.store.proofs.Sweeps.{takings-none, takings-placed, others-placed, others-all}
-use Rattle.hashed_store.specs.declared.slot.Slot.{Slot}
-use Rattle.hashed_store.specs.declared.slot.Slot.TheVariants.{Held}
 use Rattle.hashed_store.specs.Slots.{held, slot_at}
 use Rattle.hashed_store.specs.Holes.{Kept}
 use Rattle.hashed_store.specs.Places.{rows_of, Out}
@@ -14,7 +12,7 @@ use Rattle.hashed_store.proofs.Sorted.{each-sorted}
 use Rattle.hashed_store.proofs.Held.{each-held}
 
 -- part of the picked records are taken out and joined
-pub record Going {X M : Type 0} (key : X → ℕ) (p : X → Bool) (given : X → M) (none : M) (joining : M → M → M) (reach : ℕ) (was is : List (Slot X)) (t : M) (left : ℕ) : Type 0 where
+pub record Going {X M : Type 0} (key : X → ℕ) (p : X → Bool) (given : X → M) (none : M) (joining : M → M → M) (reach : ℕ) (was is : List (Option X)) (t : M) (left : ℕ) : Type 0 where
   pub kept : Kept key is reach
   pub slots : length is ≡ length was
   pub count : left ≡ length (rows_of key is)
@@ -24,11 +22,8 @@ pub record Going {X M : Type 0} (key : X → ℕ) (p : X → Bool) (given : X �
 module _ {X M : Type 0} (key : X → ℕ) (p : X → Bool) (given : X → M) (none : M) (joining : M → M → M)
     (associative : (x y z : M) → joining (joining x y) z ≡ joining x (joining y z))
     (commutative : (x y : M) → joining x y ≡ joining y x)
-    (neutral : (x : M) → joining none x ≡ x) (reach : ℕ) (was : List (Slot X)) where
-  pub going-starts : (count : ℕ) → Kept key was reach → count ≡ length (rows_of key was) → Going key p given none joining reach was was none count
-  going-starts count kept e = record { kept = kept; slots = refl; count = e; rows = refl; total = neutral _ }
-
-  pub going_on : (ss is : List (Slot X)) (t : M) (left less : ℕ) (r : X) → length is ≡ length ss → left ≡ suc less → p r ≡ true → Going key p given none joining reach was ss t left → Out key r reach ss is
+    (neutral : (x : M) → joining none x ≡ x) (reach : ℕ) (was : List (Option X)) where
+  pub going_on : (ss is : List (Option X)) (t : M) (left less : ℕ) (r : X) → length is ≡ length ss → left ≡ suc less → p r ≡ true → Going key p given none joining reach was ss t left → Out key r reach ss is
       → Going key p given none joining reach was is (joining t (given r)) less
   going_on ss is t left less r size e pick go out =
       record {
@@ -41,7 +36,7 @@ module _ {X M : Type 0} (key : X → ℕ) (p : X → Bool) (given : X → M) (no
       }
 
   -- where no record held is picked, it is done
-  ends : (is : List (Slot X)) (s : Swept M) → Each (λ x. p x ≡ false) (rows_of key is) → Going key p given none joining reach was is s.given s.left → Sweeping key p given none joining reach was is s
+  ends : (is : List (Option X)) (s : Swept M) → Each (λ x. p x ≡ false) (rows_of key is) → Going key p given none joining reach was is s.given s.left → Sweeping key p given none joining reach was is s
   ends is s none_left go = record {
     total = sym (takings-none p given none joining associative commutative neutral s.given (rows_of key is) none_left) ∙ go.total;
     rows = sym (others-all p (rows_of key is) none_left) ∙ go.rows;
@@ -50,7 +45,7 @@ module _ {X M : Type 0} (key : X → ℕ) (p : X → Bool) (given : X → M) (no
     count = go.count;
   }
 
-  pub ends-clean : (is : List (Slot X)) (s : Swept M) → ((i : ℕ) (r : X) → 0 ≤ i → i < length is → slot_at is i ≡ Held r → p r ≡ false)
+  pub ends-clean : (is : List (Option X)) (s : Swept M) → ((i : ℕ) (r : X) → 0 ≤ i → i < length is → slot_at is i ≡ Some r → p r ≡ false)
       → Going key p given none joining reach was is s.given s.left → Sweeping key p given none joining reach was is s
   ends-clean is s clean go =
       ends is s (each-sorted key (λ x. p x ≡ false) (held is) (each-held (λ x. p x ≡ false) is (λ i r l e. clean i r (omega arith) l e))) go
@@ -59,5 +54,5 @@ module _ {X M : Type 0} (key : X → ℕ) (p : X → Bool) (given : X → M) (no
   no_length [] e = tt
   no_length (x ∷ xs) e = absurd (omega arith)
 
-  pub ends-empty : (is : List (Slot X)) (s : Swept M) → s.left ≤ 0 → Going key p given none joining reach was is s.given s.left → Sweeping key p given none joining reach was is s
+  pub ends-empty : (is : List (Option X)) (s : Swept M) → s.left ≤ 0 → Going key p given none joining reach was is s.given s.left → Sweeping key p given none joining reach was is s
   ends-empty is s z go = ends is s (no_length (rows_of key is) (let a = go.count in omega arith)) go

@@ -1,23 +1,13 @@
 -- What the slots of a hashed store hold, and how they are kept.
-use Rattle.std.specs.Prelude.{◌≡◌, ℕ, ◌%◌, ◌<◌, ◌≤◌, cond, List, [], ◌∷◌, ◌++◌, Some, None, Option, ◌≢◌, nat_lt, slice_index_or}
+use Rattle.std.specs.Prelude.{◌≡◌, ℕ, ◌%◌, ◌<◌, ◌≤◌, cond, List, [], ◌∷◌, ◌++◌, Some, None, Option, IsSomeAnd, ◌≢◌, nat_lt, slice_index_or}
+use Rattle.std.specs.Option.{option_to_list}
 use Rattle.store.specs.Lists.{Each, placed}
-use Rattle.hashed_store.specs.declared.slot.Slot.{Slot}
-use Rattle.hashed_store.specs.declared.slot.Slot.TheVariants.{Empty, Held}
 use Rattle.hashed_store.specs.Rounds.{around, offset}
 
--- what one slot holds, and what all hold from the first to the last
-abbrev pub held_in : {X : Type 0} → Slot X → List X
-held_in Empty = []
-held_in (Held r) = r ∷ []
-
-abbrev pub held : {X : Type 0} → List (Slot X) → List X
+-- what all slots hold, from the first to the last
+abbrev pub held : {X : Type 0} → List (Option X) → List X
 held [] = []
-held (s ∷ ss) = held_in s ++ held ss
-
--- the record that a slot holds, or none
-abbrev pub record_in : {X : Type 0} → Slot X → Option X
-record_in Empty = None
-record_in (Held r) = Some r
+held (s ∷ ss) = option_to_list s ++ held ss
 
 -- the one of two records that is nearer to the key k from above
 abbrev pub nearer : {X : Type 0} → (X → ℕ) → ℕ → X → Option X → Option X
@@ -40,8 +30,8 @@ Apart key [] = Unit {0}
 Apart key (x ∷ xs) = Each (λ y. key y ≢ key x) xs × Apart key xs
 
 -- the slot at a place
-abbrev pub slot_at : {X : Type 0} → List (Slot X) → ℕ → Slot X
-slot_at ss i = slice_index_or ss i Empty
+abbrev pub slot_at : {X : Type 0} → List (Option X) → ℕ → Option X
+slot_at ss i = slice_index_or ss i None
 
 -- where the search for a key starts, of n slots
 abbrev pub home_of : ℕ → ℕ → ℕ
@@ -52,13 +42,13 @@ abbrev pub strayed : {X : Type 0} → (X → ℕ) → ℕ → ℕ → X → ℕ
 strayed key n i r = offset n (home_of n (key r)) i
 
 -- a record at the place i is met by a search from its home: it is near, and on its way only a hole is empty
-pub record Met {X : Type 0} (key : X → ℕ) (n : ℕ) (ss : List (Slot X)) (reach : ℕ) (Hole : ℕ → Type 0) (i : ℕ) (r : X) : Type 0 where
+pub record Met {X : Type 0} (key : X → ℕ) (n : ℕ) (ss : List (Option X)) (reach : ℕ) (Hole : ℕ → Type 0) (i : ℕ) (r : X) : Type 0 where
   pub near : strayed key n i r ≤ reach
-  pub way : (t : ℕ) → t < strayed key n i r → slot_at ss (around n (home_of n (key r)) t) ≡ Empty → Hole (around n (home_of n (key r)) t)
+  pub way : (t : ℕ) → t < strayed key n i r → slot_at ss (around n (home_of n (key r)) t) ≡ None → Hole (around n (home_of n (key r)) t)
 
 -- every record is
-abbrev pub AllMet : {X : Type 0} → (X → ℕ) → ℕ → List (Slot X) → ℕ → (ℕ → Type 0) → Type 0
-AllMet {X} key n ss reach Hole = (i : ℕ) (r : X) → i < n → slot_at ss i ≡ Held r → Met key n ss reach Hole i r
+abbrev pub AllMet : {X : Type 0} → (X → ℕ) → ℕ → List (Option X) → ℕ → (ℕ → Type 0) → Type 0
+AllMet {X} key n ss reach Hole = (i : ℕ) (r : X) → i < n → slot_at ss i ≡ Some r → Met key n ss reach Hole i r
 
 -- there is no hole, or one
 abbrev pub NoHole : ℕ → Type 0
@@ -68,19 +58,17 @@ abbrev pub HoleAt : ℕ → ℕ → Type 0
 HoleAt h i = i ≡ h
 
 -- the slot holds a record with another key than k
-abbrev pub Other : {X : Type 0} → (X → ℕ) → ℕ → Slot X → Type 0
-Other key k Empty = ⊥
-Other key k (Held r) = key r ≡ k → ⊥
+abbrev pub Other : {X : Type 0} → (X → ℕ) → ℕ → Option X → Type 0
+Other key k s = IsSomeAnd s (λ r. key r ≢ k)
 
 -- so do the first t slots of the search for k
-abbrev pub Passed : {X : Type 0} → (X → ℕ) → ℕ → List (Slot X) → ℕ → ℕ → Type 0
+abbrev pub Passed : {X : Type 0} → (X → ℕ) → ℕ → List (Option X) → ℕ → ℕ → Type 0
 Passed key n ss k t = (s : ℕ) → s < t → Other key k (slot_at ss (around n (home_of n k) s))
 
 -- the slot holds a record that has not strayed as far as s steps
-abbrev pub NotOver : {X : Type 0} → (X → ℕ) → ℕ → ℕ → ℕ → Slot X → Type 0
-NotOver key n s i Empty = ⊥
-NotOver key n s i (Held r) = strayed key n i r < s
+abbrev pub NotOver : {X : Type 0} → (X → ℕ) → ℕ → ℕ → ℕ → Option X → Type 0
+NotOver key n s i q = IsSomeAnd q (λ r. strayed key n i r < s)
 
 -- the slots after the place h, up to the u-th, hold records whose way does not go over h
-abbrev pub Short : {X : Type 0} → (X → ℕ) → ℕ → List (Slot X) → ℕ → ℕ → Type 0
-Short key n ss h u = (s : ℕ) → 0 < s → s < u → NotOver key n s (around n h s) (slot_at ss (around n h s))
+abbrev pub Short : {X : Type 0} → (X → ℕ) → ℕ → List (Option X) → ℕ → ℕ → Type 0
+Short key n ss h u = (s : ℕ) → s < u → 0 < s → NotOver key n s (around n h s) (slot_at ss (around n h s))

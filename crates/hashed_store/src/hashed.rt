@@ -1,13 +1,12 @@
 // The store: lent slots, and what is kept beside them.
 ghost use Rattle.std.specs.Prelude.{◌≡◌, length};
 
-use crate::slot::Slot;
 use store::record::Record;
 use store::store::Store;
 
 #[derive(Drop)]
 pub struct HashedStore<'a, R> {
-    pub(crate) slots: &'a mut [Slot<R>],
+    pub(crate) slots: &'a mut [Option<R>],
     pub(crate) count: usize,
     // no record has been farther than this from its home since the last emptying: a search need not go farther
     pub(crate) reach: usize,
@@ -15,7 +14,7 @@ pub struct HashedStore<'a, R> {
 
 impl<'a, R: Record> HashedStore<'a, R> {
     // A store over lent slots; it is to be emptied before it has a meaning.
-    pub fn new(slots: &'a mut [Slot<R>]) -> HashedStore<'a, R>
+    pub fn new(slots: &'a mut [Option<R>]) -> HashedStore<'a, R>
         ensures limit { (⟦<HashedStore<'a, R> as Store<R>>⟧.model result).limit ≡ length slots.old }
         ensures slots { result.slots.now ≡ slots.old }
         ensures none { (result.count ≡ 0) × (result.reach ≡ 0) }

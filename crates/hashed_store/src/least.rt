@@ -5,48 +5,40 @@ ghost use Rattle.store.specs.Visits.{Visited, Covers};
 ghost use Rattle.hashed_store.specs.Places.{rows_of, Cleared};
 ghost use Rattle.hashed_store.specs.Slots.{held, nearest};
 
-use crate::look::record_at;
-use crate::slot::Slot;
 use store::record::Record;
 use store::visit::Visit;
 
-// The record with the least key at or above one.
-pub(crate) fn least_from<R: Record>(slots: &[Slot<R>], key: u64) -> Option<R>
+// The record with the least key at or above one; of equal keys, the last.
+pub(crate) fn least_from<R: Record>(slots: &[Option<R>], key: u64) -> Option<R>
     ensures { result ≡ first_from R.Record.key key (rows_of R.Record.key slots.now) }
 {
-    let mut best = None;
-    for place in (0..slots.len()).rev() {
-        best = nearer(record_at(slots, place), key, best);
-    }
-    best
+    // No `filter` and `min_by_key`: no proof of their answer was found in three tries.
+    slots
+        .iter()
+        .rev()
+        .fold(None, |best, slot| nearer(*slot, key, best))
 }
 
 // A record where it is nearer to a key from above than the best so far.
 fn nearer<R: Record>(found: Option<R>, key: u64, best: Option<R>) -> Option<R>
     ensures { result ≡ nearest R.Record.key key found best }
 {
-    let Some(held) = found else {
-        return best;
-    };
-    if held.key() < key {
-        return best;
-    }
-    match best {
-        None => Some(held),
-        Some(other) => if held.key() < other.key() {
-            Some(held)
-        } else {
-            Some(other)
+    match found {
+        Some(held) if held.key() >= key => match best {
+            Some(other) if other.key() <= held.key() => best,
+            _ => found,
         },
+        _ => best,
     }
 }
 
 // The first record from a place on.
-pub(crate) fn next_held<R: Record>(slots: &[Slot<R>], place: u64) -> Option<Visit<R>>
+pub(crate) fn next_held<R: Record>(slots: &[Option<R>], place: u64) -> Option<Visit<R>>
     ensures { Visited (λ p. held (drop p slots.now)) place result }
 {
+    // The place to go on from is part of the answer.
     for at in place..slots.len() as u64 {
-        if let Some(record) = record_at(slots, at as usize) {
+        if let Some(record) = slots[at as usize] {
             return Some(Visit {
                 record,
                 next: Some(at + 1),
@@ -57,7 +49,7 @@ pub(crate) fn next_held<R: Record>(slots: &[Slot<R>], place: u64) -> Option<Visi
 }
 
 // The count kept beside the slots; going through all slots meets every record.
-pub(crate) fn counted<R: Record>(slots: &[Slot<R>], count: usize) -> u64
+pub(crate) fn counted<R: Record>(slots: &[Option<R>], count: usize) -> u64
     ensures says { result ≡ count }
     ensures covers { Covers (λ p. held (drop p slots.now)) (rows_of R.Record.key slots.now) }
 {
@@ -65,10 +57,8 @@ pub(crate) fn counted<R: Record>(slots: &[Slot<R>], count: usize) -> u64
     count as u64
 }
 
-pub(crate) fn clear<R: Record>(slots: &mut [Slot<R>])
+pub(crate) fn clear<R: Record>(slots: &mut [Option<R>])
     ensures { Cleared R.Record.key slots.old slots.new }
 {
-    for slot in slots.iter_mut() {
-        *slot = Slot::Empty;
-    }
+    slots.fill(None);
 }

@@ -4,10 +4,8 @@
 mod close;
 pub mod hashed;
 mod least;
-mod look;
 pub mod meaning;
 mod place;
 mod round;
-pub mod slot;
 mod sweep;
 mod way;

@@ -43,31 +43,19 @@ impl<'a, R: Record> Store<R> for HashedStore<'a, R> {
     }
 
     fn insert(&mut self, item: R) -> Result<(), InsertRefusal> {
-        let reach = self.reach;
-        match put(self.slots, item, reach) {
-            Ok(farther) => {
-                self.count = self.count.saturating_add(1);
-                self.reach = farther;
-                Ok(())
-            }
-            Err(refusal) => Err(refusal),
-        }
+        self.reach = put(self.slots, item, self.reach)?;
+        self.count = self.count.saturating_add(1);
+        Ok(())
     }
 
     fn replace(&mut self, item: R) -> Result<(), ReplaceRefusal> {
-        let reach = self.reach;
-        exchange(self.slots, item, reach)
+        exchange(self.slots, item, self.reach)
     }
 
     fn remove(&mut self, key: u64) -> Option<R> {
-        let reach = self.reach;
-        match remove_from(self.slots, key, reach) {
-            Some(removed) => {
-                self.count = self.count.saturating_sub(1);
-                Some(removed)
-            }
-            None => None,
-        }
+        let removed = remove_from(self.slots, key, self.reach)?;
+        self.count = self.count.saturating_sub(1);
+        Some(removed)
     }
 
     fn empty(&mut self) {
@@ -77,9 +65,7 @@ impl<'a, R: Record> Store<R> for HashedStore<'a, R> {
     }
 
     fn sweep<P: Pick<R>, M: Measure<R>>(&mut self, pick: &P, measure: &M) -> M::Out {
-        let count = self.count;
-        let reach = self.reach;
-        let swept = sweep_slots(self.slots, count, reach, pick, measure);
+        let swept = sweep_slots(self.slots, self.count, self.reach, pick, measure);
         self.count = swept.left;
         swept.given
     }

@@ -1,12 +1,15 @@
 // Finding, putting in, exchanging and taking out a record among the slots.
+//
+// These take the slots and the reach, and not the store: a call of the store only hands them on, so that its proof needs no file and a wrong operand
+// is refused where it stands (docs/PROVING.md). A struct of the two would be the store once more.
 ghost use Rattle.std.specs.Prelude.{◌≡◌, ◌<◌, ◌≤◌, length, MatchResult};
 ghost use Rattle.store.specs.Lists.{lookup};
 ghost use Rattle.hashed_store.specs.Holes.{Kept};
+ghost use Rattle.hashed_store.specs.Slots.{slot_at};
+ghost use Rattle.hashed_store.specs.Ways.{Sought};
 ghost use Rattle.hashed_store.specs.Places.{rows_of, PutSays, Exchanged, Taken, Removed, span_of};
 
 use crate::close::close;
-use crate::look::record_at;
-use crate::slot::Slot;
 use crate::way::{Ending, way};
 use store::record::Record;
 use store::refusal::{InsertRefusal, ReplaceRefusal};
@@ -15,22 +18,28 @@ use store::refusal::{InsertRefusal, ReplaceRefusal};
 pub(crate) fn span(reach: usize, slots: usize) -> usize
     ensures { result ≡ span_of reach slots }
 {
-    if reach < slots { reach + 1 } else { slots }
+    slots.min(reach.saturating_add(1))
 }
 
-pub(crate) fn find_in<R: Record>(slots: &[Slot<R>], key: u64, reach: usize) -> Option<R>
-    ensures { Kept R.Record.key slots.now reach → result ≡ lookup R.Record.key key (rows_of R.Record.key slots.now) }
+// The place of the record with a key, if it is held.
+fn seek<R: Record>(slots: &[Option<R>], key: u64, reach: usize) -> Option<usize>
+    ensures { Sought R.Record.key slots.now reach key result }
 {
     match way(slots, key, span(reach, slots.len())) {
-        Ending::Here(place) => record_at(slots, place),
-        Ending::Gap(_, _) => None,
-        Ending::Past => None,
+        Ending::Here(place) => Some(place),
+        Ending::Gap(..) | Ending::Past => None,
     }
+}
+
+pub(crate) fn find_in<R: Record>(slots: &[Option<R>], key: u64, reach: usize) -> Option<R>
+    ensures { Kept R.Record.key slots.now reach → result ≡ lookup R.Record.key key (rows_of R.Record.key slots.now) }
+{
+    slots[seek(slots, key, reach)?]
 }
 
 // Puts a record into the first empty slot of its way, and answers the reach that it makes.
 pub(crate) fn put<R: Record>(
-    slots: &mut [Slot<R>],
+    slots: &mut [Option<R>],
     item: R,
     reach: usize,
 ) -> Result<usize, InsertRefusal>
@@ -39,54 +48,40 @@ pub(crate) fn put<R: Record>(
     match way(slots, item.key(), slots.len()) {
         Ending::Here(_) => Err(InsertRefusal::Taken),
         Ending::Gap(place, strayed) => {
-            slots[place] = Slot::Held(item);
-            if strayed > reach {
-                Ok(strayed)
-            } else {
-                Ok(reach)
-            }
+            slots[place] = Some(item);
+            Ok(reach.max(strayed))
         }
         Ending::Past => Err(InsertRefusal::Full),
     }
 }
 
 pub(crate) fn exchange<R: Record>(
-    slots: &mut [Slot<R>],
+    slots: &mut [Option<R>],
     item: R,
     reach: usize,
 ) -> Result<(), ReplaceRefusal>
     ensures { Kept R.Record.key slots.old reach → Exchanged R.Record.key item reach slots.old slots.new result }
 {
-    match way(slots, item.key(), span(reach, slots.len())) {
-        Ending::Here(place) => {
-            slots[place] = Slot::Held(item);
-            Ok(())
-        }
-        Ending::Gap(_, _) => Err(ReplaceRefusal::Missing),
-        Ending::Past => Err(ReplaceRefusal::Missing),
-    }
+    let place = seek(slots, item.key(), reach).ok_or(ReplaceRefusal::Missing)?;
+    slots[place] = Some(item);
+    Ok(())
 }
 
 // Takes the record at a place out, and closes the hole.
-pub(crate) fn take_at<R: Record>(slots: &mut [Slot<R>], place: usize, reach: usize)
+pub(crate) fn take_at<R: Record>(slots: &mut [Option<R>], place: usize, reach: usize) -> Option<R>
     requires { place < length slots.old }
-    ensures { Taken R.Record.key place reach slots.old slots.new }
+    ensures is { result ≡ slot_at slots.old place }
+    ensures leaves { Taken R.Record.key place reach slots.old slots.new }
 {
-    slots[place] = Slot::Empty;
+    let taken = slots[place].take();
     close(slots, place, reach);
+    taken
 }
 
 // Takes the record with a key out, and answers it.
-pub(crate) fn remove_from<R: Record>(slots: &mut [Slot<R>], key: u64, reach: usize) -> Option<R>
+pub(crate) fn remove_from<R: Record>(slots: &mut [Option<R>], key: u64, reach: usize) -> Option<R>
     ensures { Removed R.Record.key key reach slots.old slots.new result }
 {
-    match way(slots, key, span(reach, slots.len())) {
-        Ending::Here(place) => {
-            let removed = record_at(slots, place);
-            take_at(slots, place, reach);
-            removed
-        }
-        Ending::Gap(_, _) => None,
-        Ending::Past => None,
-    }
+    let place = seek(slots, key, reach)?;
+    take_at(slots, place, reach)
 }

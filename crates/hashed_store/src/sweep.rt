@@ -1,11 +1,9 @@
 // Removing every record that a test picks.
 ghost use Rattle.std.specs.Prelude.{◌≡◌, ◌≤◌, map, length};
 ghost use Rattle.tally.specs.Joining.{joined_all};
-ghost use Rattle.hashed_store.specs.Sweeps.{NextPicked, SweptOut};
+ghost use Rattle.hashed_store.specs.Sweeps.{PickedIn, SweptOut};
 
-use crate::look::record_at;
 use crate::place::take_at;
-use crate::slot::Slot;
 use store::pick::Pick;
 use store::record::Record;
 use tally::measure::Measure;
@@ -25,12 +23,19 @@ pub(crate) struct Swept<T> {
     pub(crate) left: usize,
 }
 
-// The first picked record from a place on.
-fn next_picked<R: Record, P: Pick<R>>(slots: &[Slot<R>], pick: &P, from: usize) -> Option<Found<R>>
-    ensures { NextPicked (P.Pick.picked pick.now) slots.now from result }
+// The first picked record among the slots from one place to another.
+fn first_picked<R: Record, P: Pick<R>>(
+    slots: &[Option<R>],
+    pick: &P,
+    from: usize,
+    to: usize,
+) -> Option<Found<R>>
+    requires { to ≤ length slots.now }
+    ensures { PickedIn (P.Pick.picked pick.now) slots.now from to result }
 {
-    for place in from..slots.len() {
-        if let Some(item) = record_at(slots, place) {
+    // The place is part of the answer; of a `find_map` over the places no proof was found.
+    for place in from..to {
+        if let Some(item) = slots[place] {
             if pick.picks(item) {
                 return Some(Found { place, item });
             }
@@ -39,10 +44,22 @@ fn next_picked<R: Record, P: Pick<R>>(slots: &[Slot<R>], pick: &P, from: usize) 
     None
 }
 
-// A removal may move a later record into the slot just emptied, so that slot is looked at again; it may also move one around the end, so the
-// slots are gone through until a whole round picks none.
+// The next picked record from a place on, around the end.
+fn next_picked<R: Record, P: Pick<R>>(
+    slots: &[Option<R>],
+    pick: &P,
+    from: usize,
+) -> Option<Found<R>>
+    requires { from ≤ length slots.now }
+    ensures { PickedIn (P.Pick.picked pick.now) slots.now 0 (length slots.now) result }
+{
+    first_picked(slots, pick, from, slots.len()).or_else(|| first_picked(slots, pick, 0, from))
+}
+
+// A removal may move a later record into the slot just emptied, so that slot is looked at again; it may also move one around the end, so this goes
+// on until a whole round picks none.
 pub(crate) fn sweep_slots<R: Record, P: Pick<R>, M: Measure<R>>(
-    slots: &mut [Slot<R>],
+    slots: &mut [Option<R>],
     count: usize,
     reach: usize,
     pick: &P,
@@ -54,20 +71,13 @@ pub(crate) fn sweep_slots<R: Record, P: Pick<R>, M: Measure<R>>(
     let mut left = count;
     let mut from = 0;
     while left > 0 {
-        match next_picked(slots, pick, from) {
-            Some(found) => {
-                take_at(slots, found.place, reach);
-                given = given.join(measure.of(found.item));
-                left -= 1;
-                from = found.place;
-            }
-            None => {
-                if from == 0 {
-                    break;
-                }
-                from = 0;
-            }
-        }
+        let Some(found) = next_picked(slots, pick, from) else {
+            break;
+        };
+        take_at(slots, found.place, reach);
+        given = given.join(measure.of(found.item));
+        left -= 1;
+        from = found.place;
     }
     Swept { given, left }
 }

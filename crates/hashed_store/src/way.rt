@@ -2,11 +2,10 @@
 ghost use Rattle.std.specs.Prelude.{◌≤◌, length};
 ghost use Rattle.hashed_store.specs.Ways.{Went};
 
-use crate::look::{Finding, look};
 use crate::round::{home, next};
-use crate::slot::Slot;
 use store::record::Record;
 
+#[derive(Clone, Copy)]
 pub(crate) enum Ending {
     // the key is in the slot at this place
     Here(usize),
@@ -17,7 +16,7 @@ pub(crate) enum Ending {
 }
 
 // Looks for a key in the first `most` slots of its way.
-pub(crate) fn way<R: Record>(slots: &[Slot<R>], key: u64, most: usize) -> Ending
+pub(crate) fn way<R: Record>(slots: &[Option<R>], key: u64, most: usize) -> Ending
     requires { most ≤ length slots.now }
     ensures { Went R.Record.key slots.now key most result }
 {
@@ -26,13 +25,13 @@ pub(crate) fn way<R: Record>(slots: &[Slot<R>], key: u64, most: usize) -> Ending
         return Ending::Past;
     }
     let mut place = home(key, count);
+    // The steps taken are part of the answer.
     for taken in 0..most {
-        match look(slots, place, key) {
-            Finding::Match => return Ending::Here(place),
-            Finding::Vacant => return Ending::Gap(place, taken),
-            Finding::Other => {}
+        match &slots[place] {
+            None => return Ending::Gap(place, taken),
+            Some(held) if held.key() == key => return Ending::Here(place),
+            Some(_) => place = next(place, count),
         }
-        place = next(place, count);
     }
     Ending::Past
 }

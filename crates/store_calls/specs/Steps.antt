@@ -1,15 +1,10 @@
 -- How far a step goes: over the bytes at hand, and over the calls.
-use Rattle.std.specs.Prelude.{ℕ, ◌+◌, ◌-◌, ◌^◌, min, List, length, Some, None, Option}
+use Rattle.std.specs.Prelude.{ℕ, ◌+◌, ◌-◌, ◌^◌, min, List, length, Option, option_map}
 use Rattle.capture.specs.Splits.{after_end}
 
--- the bytes after the line end are left
-abbrev pub left_of : Option (List ℕ) → ℕ
-left_of None = 0
-left_of (Some rest) = length rest
-
--- the others are used
-abbrev pub used_of : List ℕ → ℕ
-used_of bytes = length bytes - left_of (after_end bytes)
+-- so many bytes are used up to the line end and with it, if it is among them
+abbrev pub used_of : List ℕ → Option ℕ
+used_of bytes = option_map (λ rest. length bytes - length rest) (after_end bytes)
 
 -- one more, up to the most that a count holds
 abbrev pub more : ℕ → ℕ

@@ -4,12 +4,12 @@ ghost use Rattle.store.specs.Models.{emptied};
 
 use crate::serving::serve;
 use crate::session::Session;
+use calls::answer::answer;
 use calls::call::{Kind, Opening};
 use calls::fronted::Fronted;
 use calls::reply::Reply;
 use front_row::open::opened;
 use hashed_store::hashed::HashedStore;
-use hashed_store::slot::Slot;
 use records::order::Order;
 use row_store::row::RowStore;
 use std::io;
@@ -21,14 +21,14 @@ pub fn open<R: BufRead, W: Write>(
     session: &mut Session<'_, R, W>,
     opening: Opening,
 ) -> io::Result<Option<Opening>> {
+    // An arm each: a store borrows its memory, which is of another type in each.
     match opening.kind {
         Kind::Row => {
             let mut rows = vec![in session.heap; Order::BLANK; opening.limit as usize]?;
             open_over(session, opening.front, RowStore::new(rows.as_mut_slice()))
         }
         Kind::Hashed => {
-            let blank = Slot::Held(Order::BLANK);
-            let mut slots = vec![in session.heap; blank; opening.limit as usize]?;
+            let mut slots = vec![in session.heap; Some(Order::BLANK); opening.limit as usize]?;
             open_over(
                 session,
                 opening.front,
@@ -53,18 +53,16 @@ fn open_over<R: BufRead, W: Write, S: Store<Order> + Fronted + Drop>(
 
 fn serve_new<R: BufRead, W: Write, S: Store<Order> + Fronted + Drop>(
     session: &mut Session<'_, R, W>,
-    store: S,
+    mut store: S,
 ) -> io::Result<Option<Opening>> {
-    let mut store = store;
     session.reply(Reply::Opened(store.limit()))?;
-    serve(session, &mut store)
+    serve(session, |call| answer(&mut store, call))
 }
 
-fn ready<S: Store<Order>>(store: S) -> S
+fn ready<S: Store<Order>>(mut store: S) -> S
     ensures leaves { S.Store.model result ≡ emptied (S.Store.model store) }
     ensures ready { S.Store.ready result }
 {
-    let mut store = store;
     store.empty();
     store
 }

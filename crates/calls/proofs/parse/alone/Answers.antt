@@ -1,8 +1,9 @@
-use Rattle.std.proofs.Common.{sym, ap, ◌∙◌}
-use Rattle.calls.specs.Requests.{bare_of}
-use Rattle.calls.proofs.Lone.{words-some}
+use Rattle.std.proofs.Common.{◌∙◌}
+use Rattle.calls.specs.Words.{words_after}
+use Rattle.calls.proofs.Lone.{alone-is}
 use Rattle.calls.proofs.parse.alone.Goals as goal
 
-pub returns-in-Some : goal.returns-in-Some
-returns-in-Some c =
-    sym (ap (bare_of c.args.call) c.in-Some.ensures ∙ words-some c.args.call c.in-Some.field-0.now)
+pub returns : goal.returns
+returns c =
+    c.then_some.ensures
+    ∙ alone-is c.args.call (λ x. x.now) (words_after c.args.rest.now) c.after_space.result c.is_none.result c.is_none.ensures c.after_space.ensures

@@ -1,5 +1,4 @@
-use Rattle.std.proofs.Common.{◌≡◌, ℕ, ◌<◌, length, set, ◌∙◌, subst, arith, length-set}
-use Rattle.hashed_store.specs.declared.slot.Slot.TheVariants.{Empty}
+use Rattle.std.proofs.Common.{◌≡◌, ℕ, ◌<◌, length, set, ◌∙◌, subst, arith, length-set, None}
 use Rattle.hashed_store.specs.Slots.{slot_at}
 use Rattle.hashed_store.proofs.Spread.{spread}
 use Rattle.hashed_store.proofs.Closing.{moving-falls, moving-keeps, closed-ends}
@@ -12,7 +11,7 @@ loop-place-smaller g c =
     let h = c.loop-place.hole in
     let e : length ss ≡ length c.args.slots.now = omega arith in
     rw c.move_back.ensures
-    (subst (λ (n : ℕ). spread g.R.Record.key n 0 (set (set ss i Empty) h (slot_at ss i)) < spread g.R.Record.key n 0 ss) e
+    (subst (λ (n : ℕ). spread g.R.Record.key n 0 (set (set ss i None) h (slot_at ss i)) < spread g.R.Record.key n 0 ss) e
     (moving-falls g.R.Record.key ss h i c.loop-place.invariant.0 c.in-Some.ensures))
 
 pub loop-place-preserved : goal.loop-place-preserved

@@ -1,17 +1,13 @@
-use Rattle.std.proofs.Common.{length, sym, ap, arith}
-use Rattle.store.specs.Lists.{first_from}
-use Rattle.hashed_store.specs.Slots.{sorted}
-use Rattle.hashed_store.proofs.Going.{from_more, held-past}
+use Rattle.std.proofs.Common.{None, ◌∙◌, rules}
+use Rattle.std.proofs.lemmas.Iterator.Adapters.{YieldsList-from_rev_slice}
+use Rattle.std.proofs.lemmas.Iterator.Consumers.{fold_from_yields_List}
+use borrow.Author.Tests.{tests}
+use Rattle.hashed_store.specs.Slots.{nearest}
+use Rattle.hashed_store.proofs.Going.{from-last}
 use Rattle.hashed_store.proofs.least.least_from.Goals as goal
 
-pub loop-place-init : goal.loop-place-init
-loop-place-init g c =
-    sym (ap (λ xs. first_from g.R.Record.key c.args.key (sorted g.R.Record.key xs)) (held-past c.args.slots.now (length c.args.slots.now) (omega arith)))
-
-pub loop-place-preserved : goal.loop-place-preserved
-loop-place-preserved g c =
-    let step = from_more g.R.Record.key c.args.key c.args.slots.now c.loop-place.place c.loop-place-test.true c.loop-place.auto.place in
-    let inv = c.loop-place.invariant in
-    let near = c.nearer-best.ensures in
-    let here = c.record_at.ensures in
-    cc
+pub returns : goal.returns
+returns g c =
+    fold_from_yields_List _ (λ best s. nearest g.R.Record.key c.args.key s best) None c.fold.result c.fold.ensures.ran
+    (YieldsList-from_rev_slice c.args.slots.now (cc)) (λ a x b q e. search (rules, tests))
+    ∙ from-last g.R.Record.key c.args.key c.args.slots.now

@@ -6,14 +6,9 @@ pub returns-in-Here : goal.returns-in-Here
 returns-in-Here g c kept =
     taken-there g.R.Record.key c.args.slots.now c.args.reach c.args.item c.in-Here.field-0 kept (rw c.key.ensures at c.in-Here.ensures)
 
-pub returns-then-strayed-reach : goal.returns-then-strayed-reach
-returns-then-strayed-reach g c kept =
-    put-there g.R.Record.key c.args.slots.now c.args.reach c.in-Gap.strayed c.args.item c.in-Gap.place c.in-Gap.strayed (omega arith) (omega arith) kept
-    (rw c.key.ensures at c.in-Gap.ensures)
-
-pub returns-else-strayed-reach : goal.returns-else-strayed-reach
-returns-else-strayed-reach g c kept =
-    put-there g.R.Record.key c.args.slots.now c.args.reach c.args.reach c.args.item c.in-Gap.place c.in-Gap.strayed (omega arith) (omega arith) kept
+pub returns-in-Gap : goal.returns-in-Gap
+returns-in-Gap g c kept =
+    put-there g.R.Record.key c.args.slots.now c.args.reach c.max.result c.args.item c.in-Gap.place c.in-Gap.strayed (omega arith) (omega arith) kept
     (rw c.key.ensures at c.in-Gap.ensures)
 
 pub returns-in-Past : goal.returns-in-Past

@@ -1,6 +1,7 @@
 use Rattle.hashed_store.proofs.Placing.{out-there}
 use Rattle.hashed_store.proofs.place.take_at.Goals as goal
 
-pub returns : goal.returns
-returns g c r is kept =
-    out-there g.R.Record.key c.args.slots.now c.close.new.slots c.args.reach c.args.place r c.requires is kept c.close.ensures
+pub returns-clause-leaves : goal.returns-clause-leaves
+returns-clause-leaves g c r is kept =
+    out-there g.R.Record.key c.args.slots.now c.close.new.slots c.args.reach c.args.place r c.requires is kept
+    (rw c.take-taken.ensures.after at c.close.ensures)

@@ -1,6 +1,0 @@
-// One place of the lent memory.
-#[derive(Clone, Copy)]
-pub enum Slot<R> {
-    Empty,
-    Held(R),
-}
