@@ -18,6 +18,7 @@ pub(crate) enum Verb {
     Empty,
 }
 
+// No `TryFrom`, here and below: the parser goes by options, and a word that means nothing has no more to say.
 pub(crate) fn verb_of(word: &[u8]) -> Option<Verb>
     ensures { result ≡ verb_meant word.now }
 {

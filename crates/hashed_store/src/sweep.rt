@@ -70,6 +70,7 @@ pub(crate) fn sweep_slots<R: Record, P: Pick<R>, M: Measure<R>>(
     let mut given = M::Out::empty();
     let mut left = count;
     let mut from = 0;
+    // What is left is part of the answer, and tells that nothing more can be picked.
     while left > 0 {
         let Some(found) = next_picked(slots, pick, from) else {
             break;

@@ -6,7 +6,7 @@ use std::io;
 use std::io::{BufRead, Write};
 
 // Answers each call by `answer`, until a line opens another store: that one, or none at the end of the input.
-pub fn serve<R: BufRead, W: Write, F: FnMut(Call) -> Reply>(
+pub(crate) fn serve<R: BufRead, W: Write, F: FnMut(Call) -> Reply>(
     session: &mut Session<'_, R, W>,
     mut answer: F,
 ) -> io::Result<Option<Opening>>
