@@ -1,4 +1,5 @@
-// The interface of a kind of message.
+// The interface of a kind of message. A kind goes through its fields three times, to read, to check and to write them: one list of them, as a type of nested pairs, would hide
+// the names and the offsets, and is no plainer.
 ghost use Rattle.std.specs.Prelude.{◌≡◌, ℕ, List, Ok, Err, MatchResult};
 ghost use Rattle.layout.specs.Fields.{Field, read_fields, check_fields, put_fields};
 ghost use Rattle.fields.specs.declared.place.Place.{Place};

@@ -6,7 +6,7 @@ use crate::fault::MessageFault;
 use layout::fault::FieldFault;
 
 impl MessageFault {
-    // The number by which the refusal is known.
+    // The number by which the refusal is known outside: documents and outputs go by it, and the code by the variants.
     pub fn number(&self) -> u8
         ensures { result ≡ number_of self.now }
     {

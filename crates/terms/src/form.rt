@@ -20,7 +20,7 @@ use messages::message::Message;
 use messages::record::Terms;
 use std::marker::PhantomData;
 
-// What tells one such kind from another: its letter, its length, its record, and how it gives the symbol.
+// A row of a table, of which there are four. What tells one such kind from another: its letter, its length, its record, and how it gives the symbol.
 pub trait Form {
     const LETTER: u8;
 
