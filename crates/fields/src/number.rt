@@ -1,11 +1,11 @@
 // Fields of digits: read, checked and written.
-ghost use Rattle.std.specs.Prelude.{◌≡◌, ◌<◌, false, length, MatchOption, slice_index};
+ghost use Rattle.std.specs.Prelude.{◌≡◌, ◌<◌, false, MatchOption, nat_lt};
 ghost use Rattle.layout.specs.Bytes.{worth_of};
-ghost use Rattle.layout.specs.Slots.{holds};
 ghost use Rattle.fields.specs.Slots.{number_slot};
 
 use crate::field::Field;
 use crate::numeral::Number;
+use crate::place::front;
 use crate::put::put_digits;
 use crate::table::look;
 
@@ -21,13 +21,16 @@ impl Field for Number {
     }
 
     fn scan(self, line: &[u8]) -> Result<u64, u8> {
+        let held = front(line, self.count);
         let mut value = 0;
-        // By place, since a fault names it.
-        for place in 0..self.count {
-            let Some(digit) = self.digit(line, place) else {
-                return Err(place);
+        for (place, byte) in held.iter().enumerate() {
+            let Some(digit) = self.digit(*byte) else {
+                return Err(place as u8);
             };
             value = value * self.base + digit;
+        }
+        if held.len() < self.count as usize {
+            return Err(held.len() as u8);
         }
         Ok(value)
     }
@@ -46,11 +49,10 @@ impl Field for Number {
 }
 
 impl Number {
-    // The worth of the byte at that place of the line, if there is one and it is a digit of the base.
-    fn digit(self, line: &[u8], place: u8) -> Option<u64>
-        ensures { MatchOption result (holds (number_slot self) line.now place ≡ false) (λ d. (place < length line.now) × (d < self.base) × (d ≡ worth_of (slice_index line.now place))) }
+    // The worth of the byte, if it is a digit of the base.
+    fn digit(self, byte: u8) -> Option<u64>
+        ensures { MatchOption result (nat_lt (worth_of byte) self.base ≡ false) (λ d. (d < self.base) × (d ≡ worth_of byte)) }
     {
-        let byte = *line.get(place as usize)?;
         let worth = look(byte).worth as u64;
         if worth < self.base { Some(worth) } else { None }
     }

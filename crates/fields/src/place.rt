@@ -1,5 +1,5 @@
 // Places in a line.
-ghost use Rattle.std.specs.Prelude.{◌≡◌, drop};
+ghost use Rattle.std.specs.Prelude.{◌≡◌, take, drop};
 ghost use Rattle.layout.specs.Slots.{spot, origin};
 
 use layout::fault::Spot;
@@ -41,4 +41,11 @@ pub(crate) fn past(line: &[u8], count: u8) -> &[u8]
     ensures { result.now ≡ drop count line.now }
 {
     line.get(usize::from(count)..).unwrap_or(&[])
+}
+
+// The first so many bytes of the line, or all where there are fewer.
+pub(crate) fn front(line: &[u8], count: u8) -> &[u8]
+    ensures { result.now ≡ take count line.now }
+{
+    &line[..line.len().min(count as usize)]
 }

@@ -1,12 +1,12 @@
 // Padded fields: read, checked and written.
-ghost use Rattle.std.specs.Prelude.{◌≡◌, ◌+◌, ◌-◌, ◌/◌, ◌^◌, ◌<◌, ◌≤◌, true, false, not, ◌&&◌, ◌==◌, cond, length, replicate, if◌then◌else◌, MatchOption, nat_eq, nat_le, slice_index};
+ghost use Rattle.std.specs.Prelude.{◌≡◌, ◌-◌, ◌/◌, ◌^◌, ◌<◌, ◌≤◌, not, ◌&&◌, replicate, if◌then◌else◌, nat_eq, nat_le};
 ghost use Rattle.std.specs.Int.Digits.{number_from_digits_after};
 ghost use Rattle.layout.specs.Bytes.{is_of};
-ghost use Rattle.layout.specs.Slots.{after_space, keeps, holds};
 ghost use Rattle.fields.specs.Slots.{text_slot};
 
 use crate::field::Field;
 use crate::padded::Text;
+use crate::place::front;
 use crate::put::put_digits;
 use crate::table::look;
 use layout::class::Class;
@@ -23,15 +23,18 @@ impl Field for Text {
     }
 
     fn scan(self, line: &[u8]) -> Result<u64, u8> {
+        let held = front(line, self.width);
         let mut value = 0;
         let mut spaced = false;
-        // By place, since a fault names it.
-        for place in 0..self.width {
-            let Some(byte) = self.byte(line, place, spaced) else {
-                return Err(place);
-            };
-            spaced = byte == b' ';
-            value = value * 256 + byte as u64;
+        for (place, byte) in held.iter().enumerate() {
+            if !self.fits(*byte, place as u8, spaced) {
+                return Err(place as u8);
+            }
+            spaced = *byte == b' ';
+            value = value * 256 + *byte as u64;
+        }
+        if held.len() < self.width as usize {
+            return Err(held.len() as u8);
         }
         Ok(filled(value, self.whole - self.width))
     }
@@ -58,18 +61,6 @@ impl Field for Text {
 }
 
 impl Text {
-    // The byte at that place of the line, if there is one and it may stand there, after a space or not.
-    fn byte(self, line: &[u8], place: u8, spaced: bool) -> Option<u8>
-        ensures { spaced ≡ after_space line.now place → MatchOption result (holds (text_slot self) line.now place ≡ false) (λ b. (place < length line.now) × (keeps (text_slot self) line.now place ≡ true) × (b ≡ slice_index line.now place)) }
-    {
-        let byte = *line.get(place as usize)?;
-        if self.fits(byte, place, spaced) {
-            Some(byte)
-        } else {
-            None
-        }
-    }
-
     // Whether the byte may stand at that place, after a space or not.
     fn fits(self, byte: u8, place: u8, spaced: bool) -> bool
         ensures { result ≡ (if nat_eq byte 32 then nat_le self.least place else is_of self.class byte && not spaced) }

@@ -1,9 +1,9 @@
 -- The steps of a loop over the bytes of a field.
-use Rattle.std.proofs.Common.{◌≡◌, ℕ, zero, suc, ◌+◌, ◌*◌, ◌^◌, ◌<◌, ◌≤◌, true, false, ltb, List, map, length, get_or, take, ap, ◌∙◌, add-one, arith}
+use Rattle.std.proofs.Common.{◌≡◌, ℕ, zero, suc, ◌+◌, ◌*◌, ◌^◌, ◌<◌, ◌≤◌, true, false, ltb, List, map, length, get_or, min, take, ap, ◌∙◌, add-one, arith}
 use native.Mathlib.Nat.{pow-le-pow_right}
 use Rattle.std.specs.Int.Digits.{number_from_digits as number_of}
 use Rattle.std.proofs.lemmas.Int.Digits.{number_push}
-use Rattle.std.proofs.lemmas.List.{map_more, get_or-take, length-take-le}
+use Rattle.std.proofs.lemmas.List.{map_more, get_or-take, length-take, length-take-le}
 use Rattle.std.proofs.lemmas.Bool.{and_from, and_left, and_right, lt-ltb, le-ltb}
 use Rattle.layout.specs.Slots.{Slot, number, text, choice, keeps, holds, Passes, Stops}
 use Rattle.layout.proofs.Digits.{push-lt}
@@ -32,6 +32,17 @@ module _ (s : Slot) (xs : List ℕ) where
 
   pub stops-short : (n i : ℕ) → i < n → Passes (holds s xs) i → length xs ≤ i → Stops (holds s xs) n i
   stops-short n i lt h e = (lt, h, and_left (ltb i (length xs)) (keeps s xs i) (le-ltb i (length xs) e))
+
+-- a place among the first n bytes, and where there are fewer
+module _ (n : ℕ) (xs front : List ℕ) (e : front ≡ take n xs) where
+  pub in-front : (i : ℕ) → i < length front → (i < n) × (i < length xs) × (get_or front i 0 ≡ get_or xs i 0)
+  in-front i lt =
+      let size : length front ≡ min n (length xs) = ap length e ∙ length-take n xs in
+      let within : i < n = omega arith in
+      (within, omega arith, ap (λ ys. get_or ys i 0) e ∙ get_or-take n xs i 0 within)
+
+  pub front-short : length front < n → length xs ≤ length front
+  front-short lt = let size : length front ≡ min n (length xs) = ap length e ∙ length-take n xs in omega arith
 
 -- a byte keeps the rule or not by the field's own bytes
 keeps-part : (s : Slot) (xs : List ℕ) (n j : ℕ) → j < n → keeps s xs j ≡ keeps s (take n xs) j

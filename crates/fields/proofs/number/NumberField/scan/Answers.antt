@@ -1,35 +1,48 @@
-use Rattle.std.proofs.Common.{◌≡◌, Ok, sym, ap, ◌∙◌, arith}
+use Rattle.std.proofs.Common.{◌≡◌, length, Ok, sym, ap, ◌∙◌, arith}
+use Rattle.std.proofs.lemmas.List.{length-take}
 use mir.Facts.{Fits-bits}
 use Rattle.std.proofs.lemmas.Bool.{lt-ltb}
 use Rattle.layout.specs.Bytes.{worth_of}
 use Rattle.layout.specs.Slots.{value_of}
 use Rattle.layout.proofs.Digits.{push-lt}
 use Rattle.layout.proofs.Reading.{scan-stops, scan-passes}
-use Rattle.layout.proofs.Scanning.{number_more, push-fits, passes-step}
+use Rattle.layout.proofs.Scanning.{number_more, push-fits, passes-step, stops-here, stops-short, in-front, front-short}
 use Rattle.fields.specs.Slots.{number_slot}
 use Rattle.fields.proofs.number.NumberField.scan.Goals as goal
 
 pub returns-in_default : goal.returns-in_default
-returns-in_default c = scan-stops _ _ _ (c.loop-place-test.true, c.loop-place.invariant.0, c.in_default.ensures)
+returns-in_default c =
+    let here = in-front _ _ _ c.front-held.ensures c.loop-place.place c.loop-place-test.true in
+    scan-stops _ _ _ (stops-here (number_slot c.args.self) c.args.line.now _ _ here.0 c.loop-place.invariant.0 (rw here.2 at c.in_default.ensures))
 
 pub overflow_mul-value : goal.overflow_mul-value
 overflow_mul-value c =
-    let below = push-fits _ _ c.args.self.count _ _ c.loop-place.invariant.2 c.in-Some.ensures.1 c.loop-place-test.true c.args.self.fits in
+    let here = in-front _ _ _ c.front-held.ensures c.loop-place.place c.loop-place-test.true in
+    let below = push-fits _ _ c.args.self.count _ _ c.loop-place.invariant.2 c.in-Some.ensures.0 here.0 c.args.self.fits in
     Fits-bits 64 tt (omega arith)
 
 pub overflow_add-value : goal.overflow_add-value
-overflow_add-value c = Fits-bits 64 tt (push-fits _ _ c.args.self.count _ _ c.loop-place.invariant.2 c.in-Some.ensures.1 c.loop-place-test.true c.args.self.fits)
+overflow_add-value c =
+    let here = in-front _ _ _ c.front-held.ensures c.loop-place.place c.loop-place-test.true in
+    Fits-bits 64 tt (push-fits _ _ c.args.self.count _ _ c.loop-place.invariant.2 c.in-Some.ensures.0 here.0 c.args.self.fits)
 
 pub loop-place-preserved : goal.loop-place-preserved
 loop-place-preserved c =
-    let held = c.in-Some.ensures in (
-      passes-step (number_slot c.args.self) c.args.line.now _ c.loop-place.invariant.0 held.0 (lt-ltb _ _ (rw held.2 at held.1)),
-      rw (number_more _ worth_of _ _ held.0, ← c.loop-place.invariant.1, held.2),
-      push-lt _ _ _ _ c.loop-place.invariant.2 held.1,
+    let here = in-front _ _ _ c.front-held.ensures c.loop-place.place c.loop-place-test.true in
+    let worth = c.in-Some.ensures.1 ∙ ap worth_of here.2 in (
+      passes-step (number_slot c.args.self) c.args.line.now _ c.loop-place.invariant.0 here.1 (lt-ltb _ _ (rw worth at c.in-Some.ensures.0)),
+      rw (number_more _ worth_of _ _ here.1, ← c.loop-place.invariant.1, worth),
+      push-lt _ _ _ _ c.loop-place.invariant.2 c.in-Some.ensures.0,
     )
+
+pub returns-then-held-self : goal.returns-then-held-self
+returns-then-held-self c =
+    let whole : c.loop-place.place ≡ length c.front-held.result.now = omega arith in
+    scan-stops _ _ _ (stops-short (number_slot c.args.self) c.args.line.now _ _ c.if-held-self.true (rw whole at c.loop-place.invariant.0) (front-short _ _ _ c.front-held.ensures c.if-held-self.true))
 
 pub returns : goal.returns
 unfolding value_of
 returns c =
-    let same : c.loop-place.place ≡ c.args.self.count = omega arith in
+    let size = ap length c.front-held.ensures ∙ length-take c.args.self.count c.args.line.now in
+    let same : c.loop-place.place ≡ c.args.self.count = omega (arith, size) in
     scan-passes (number_slot c.args.self) c.args.line.now (rw same at c.loop-place.invariant.0) ∙ ap Ok (sym (rw same at c.loop-place.invariant.1))
