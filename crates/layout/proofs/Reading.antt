@@ -54,9 +54,9 @@ module _ (letters : List ℕ) (xs : List ℕ) where
       scan-passes (choice letters) xs (passes-step (choice letters) xs 0 (passes_none (choice letters) xs) lt e) ∙ ap Ok (get_or-take 1 xs 0 0 (omega arith))
 
   -- of a type whose values stand for the letters: a byte is turned into the value that it stands for, if there is one
-  pub scan-letter : {X E : Type 0} (letter : X → ℕ) → ((x : X) → is_one_of letters (letter x) ≡ true) → (b : ℕ) → 0 < length xs → b ≡ get_or xs 0 0 → (r : Result X E) → MatchResult r (λ x. letter x ≡ b) (λ _. is_one_of letters b ≡ false) → MatchResult (result_or r (Err 0)) (λ x. scan_slot (choice letters) xs ≡ Ok (letter x)) (λ i. scan_slot (choice letters) xs ≡ Err i)
-  scan-letter letter member b lt here (Ok x) h = scan-member lt (rw (← here, ← h) (member x)) ∙ ap Ok (sym (h ∙ here))
-  scan-letter letter member b lt here (Err e) h = scan-other (rw here at h)
+  pub scan-letter : {X E : Type 0} (Q : E → Type 0) (letter : X → ℕ) → ((x : X) → is_one_of letters (letter x) ≡ true) → (b : ℕ) → 0 < length xs → b ≡ get_or xs 0 0 → (r : Result X E) → MatchResult r (λ x. letter x ≡ b) (λ e. Q e × (is_one_of letters b ≡ false)) → MatchResult (result_or r (Err 0)) (λ x. scan_slot (choice letters) xs ≡ Ok (letter x)) (λ i. scan_slot (choice letters) xs ≡ Err i)
+  scan-letter Q letter member b lt here (Ok x) h = scan-member lt (rw (← here, ← h) (member x)) ∙ ap Ok (sym (h ∙ here))
+  scan-letter Q letter member b lt here (Err e) h = scan-other (rw here at h.1)
 
 -- of one letter alone
 module _ (letter : ℕ) (xs : List ℕ) where
