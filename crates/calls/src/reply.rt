@@ -108,8 +108,6 @@ impl fmt::Display for Numbered {
     ghost output = { λ r. Some (numbered_text r.number r.reply) };
 
     fn fmt<W: fmt::Write>(&self, f: &mut fmt::Formatter<W>) -> fmt::Result {
-        let number = self.number;
-        let reply = self.reply;
-        write!(f, "(call {number} {reply})")
+        write!(f, "(call {} {})", self.number, self.reply)
     }
 }

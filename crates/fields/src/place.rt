@@ -47,5 +47,5 @@ pub(crate) fn past(line: &[u8], count: u8) -> &[u8]
 pub(crate) fn front(line: &[u8], count: u8) -> &[u8]
     ensures { result.now ≡ take count line.now }
 {
-    &line[..line.len().min(count as usize)]
+    &line[..line.len().min(usize::from(count))]
 }

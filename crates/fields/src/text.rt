@@ -48,10 +48,7 @@ impl Field for Text {
     fn gives(self, value: u64) -> bool {
         let mut bytes = [0u8; 8];
         self.put(&mut bytes, 0, value);
-        match self.scan(&bytes) {
-            Ok(back) => back == value,
-            Err(_) => false,
-        }
+        self.scan(&bytes) == Ok(value)
     }
 
     fn put(self, room: &mut [u8], offset: u8, value: u64) {

@@ -1,8 +1,10 @@
 // How a field is shown: its word, and then its value unless it is blank.
+ghost use Rattle.std.specs.Prelude.{◌≤◌};
+
 use crate::trim::trimmed;
 use fields::field::Field;
-use fields::numeral::ID;
-use fields::padded::{LONG_SYMBOL, PARTICIPANT};
+use fields::numeral::{ID, Number};
+use fields::padded::{LONG_SYMBOL, PARTICIPANT, Text};
 use std::fmt;
 use std::str::from_utf8;
 
@@ -20,25 +22,33 @@ pub(crate) fn show_id<W: fmt::Write>(
     word: &str,
     value: u64,
 ) -> fmt::Result {
-    let mut digits = [b'0'; 12];
-    ID.put(&mut digits, 0, value);
-    show_text(f, word, &digits)
+    show_field::<W, Number, 12>(f, word, ID, value)
 }
 
 // A symbol's number is the same in both of its widths, so the longer one shows all of it.
 pub(crate) fn show_symbol<W: fmt::Write>(f: &mut fmt::Formatter<W>, value: u64) -> fmt::Result {
-    let mut text = [b' '; 8];
-    LONG_SYMBOL.put(&mut text, 0, value);
-    show_text(f, "symbol", &text)
+    show_field::<W, Text, 8>(f, "symbol", LONG_SYMBOL, value)
 }
 
 pub(crate) fn show_participant<W: fmt::Write>(
     f: &mut fmt::Formatter<W>,
     value: u64,
 ) -> fmt::Result {
-    let mut text = [b' '; 4];
-    PARTICIPANT.put(&mut text, 0, value);
-    show_text(f, "participant", &text)
+    show_field::<W, Text, 4>(f, "participant", PARTICIPANT, value)
+}
+
+// A field of so many bytes, as a line would have it.
+fn show_field<W: fmt::Write, F: Field<Value = u64>, const SIZE: usize>(
+    f: &mut fmt::Formatter<W>,
+    word: &str,
+    field: F,
+    value: u64,
+) -> fmt::Result
+    requires { SIZE ≤ 12 }
+{
+    let mut text = [b' '; SIZE];
+    field.put(&mut text, 0, value);
+    show_text(f, word, &text)
 }
 
 // A space is a blank letter.

@@ -2,12 +2,14 @@
 // the names and the offsets, and is no plainer.
 ghost use Rattle.std.specs.Prelude.{◌≡◌, ℕ, List, Ok, Err, MatchResult};
 ghost use Rattle.layout.specs.Fields.{Field, read_fields, check_fields, put_fields};
+ghost use Rattle.fields.specs.declared.mark.Mark.{Mark};
 ghost use Rattle.fields.specs.declared.place.Place.{Place};
 ghost use Rattle.messages.specs.Layouts.{letter_of, length_of, layout_of};
 ghost use Rattle.messages.specs.Lines.{told};
 ghost use Rattle.messages.specs.Types.{MessageType};
 
 use crate::message::Message;
+use fields::mark::Mark;
 use fields::place::Place;
 use layout::fault::FieldFault;
 
@@ -54,6 +56,14 @@ pub trait Kind {
             letter: Self::LETTER,
             offset,
         }
+    }
+
+    // The field of the letter itself.
+    fn mark() -> Mark
+        ensures { result ≡ record { letter = LETTER } }
+    {
+        let letter = Self::LETTER;
+        Mark { letter }
     }
 
     // The letter, the length and the fields are the row's.

@@ -5,7 +5,6 @@ ghost use Rattle.messages.specs.Types.{OrderCancel as kind};
 ghost use Rattle.messages.specs.Values.{cancel_values};
 
 use fields::field::Field;
-use fields::mark::Mark;
 use fields::numeral::{ID, SHARES, TIME};
 use layout::fault::FieldFault;
 use messages::kind::Kind;
@@ -43,10 +42,7 @@ impl Kind for OrderCancel {
 
     fn read(line: &[u8]) -> Result<Cancel, FieldFault> {
         let (time, rest) = TIME.read(line, Self::at(0))?;
-        let (_, rest) = Mark {
-            letter: Self::LETTER,
-        }
-        .read(rest, Self::at(8))?;
+        let (_, rest) = Self::mark().read(rest, Self::at(8))?;
         let (order, rest) = ID.read(rest, Self::at(9))?;
         let (shares, _) = SHARES.read(rest, Self::at(21))?;
         Ok(Cancel {
@@ -64,10 +60,7 @@ impl Kind for OrderCancel {
 
     fn put(cancel: &Cancel, room: &mut [u8]) {
         TIME.put(room, 0, cancel.time);
-        Mark {
-            letter: Self::LETTER,
-        }
-        .put(room, 8, ());
+        Self::mark().put(room, 8, ());
         ID.put(room, 9, cancel.order);
         SHARES.put(room, 21, cancel.shares);
     }

@@ -5,7 +5,6 @@ ghost use Rattle.messages.specs.Types.{SymbolClear as kind};
 ghost use Rattle.messages.specs.Values.{clear_values};
 
 use fields::field::Field;
-use fields::mark::Mark;
 use fields::numeral::TIME;
 use fields::padded::LONG_SYMBOL;
 use layout::fault::FieldFault;
@@ -44,10 +43,7 @@ impl Kind for SymbolClear {
 
     fn read(line: &[u8]) -> Result<ClearSymbol, FieldFault> {
         let (time, rest) = TIME.read(line, Self::at(0))?;
-        let (_, rest) = Mark {
-            letter: Self::LETTER,
-        }
-        .read(rest, Self::at(8))?;
+        let (_, rest) = Self::mark().read(rest, Self::at(8))?;
         let (symbol, _) = LONG_SYMBOL.read(rest, Self::at(9))?;
         Ok(ClearSymbol { time, symbol })
     }
@@ -59,10 +55,7 @@ impl Kind for SymbolClear {
 
     fn put(clear: &ClearSymbol, room: &mut [u8]) {
         TIME.put(room, 0, clear.time);
-        Mark {
-            letter: Self::LETTER,
-        }
-        .put(room, 8, ());
+        Self::mark().put(room, 8, ());
         LONG_SYMBOL.put(room, 9, clear.symbol);
     }
 }

@@ -5,7 +5,6 @@ ghost use Rattle.messages.specs.Types.{OrderExecuted as kind};
 ghost use Rattle.messages.specs.Values.{executed_values};
 
 use fields::field::Field;
-use fields::mark::Mark;
 use fields::numeral::{ID, SHARES, TIME};
 use layout::fault::FieldFault;
 use messages::kind::Kind;
@@ -43,10 +42,7 @@ impl Kind for OrderExecuted {
 
     fn read(line: &[u8]) -> Result<Execution, FieldFault> {
         let (time, rest) = TIME.read(line, Self::at(0))?;
-        let (_, rest) = Mark {
-            letter: Self::LETTER,
-        }
-        .read(rest, Self::at(8))?;
+        let (_, rest) = Self::mark().read(rest, Self::at(8))?;
         let (order, rest) = ID.read(rest, Self::at(9))?;
         let (shares, rest) = SHARES.read(rest, Self::at(21))?;
         let (execution, _) = ID.read(rest, Self::at(27))?;
@@ -67,10 +63,7 @@ impl Kind for OrderExecuted {
 
     fn put(executed: &Execution, room: &mut [u8]) {
         TIME.put(room, 0, executed.time);
-        Mark {
-            letter: Self::LETTER,
-        }
-        .put(room, 8, ());
+        Self::mark().put(room, 8, ());
         ID.put(room, 9, executed.order);
         SHARES.put(room, 21, executed.shares);
         ID.put(room, 27, executed.execution);

@@ -1,4 +1,4 @@
-// The kinds of those records.
+// The kinds whose lines give the terms of an order.
 ghost use Rattle.std.specs.Prelude.{◌≡◌, ℕ};
 ghost use Rattle.layout.specs.Slots.{Slot, choice};
 ghost use Rattle.fields.specs.Slots.{text_slot};
@@ -11,7 +11,6 @@ ghost use Rattle.terms.specs.Terms.{terms_fields_then};
 use crate::termed::Termed;
 use fields::field::Field;
 use fields::letter::Letter;
-use fields::mark::Mark;
 use fields::numeral::{ID, PRICE, SHARES, TIME};
 use fields::padded::Text;
 use layout::fault::FieldFault;
@@ -20,7 +19,8 @@ use messages::message::Message;
 use messages::record::Terms;
 use std::marker::PhantomData;
 
-// A row of a table, of which there are four. What tells one such kind from another: its letter, its length, its record, and how it gives the symbol.
+// What tells one such kind from another: its letter, its length, its record, and how it gives the symbol. There are four, and each
+// impl is a row of constants, with what ties them to the layout table.
 pub trait Form {
     const LETTER: u8;
 
@@ -83,7 +83,7 @@ impl<F: Form> Kind for OfForm<F> {
     fn read(line: &[u8]) -> Result<F::Record, FieldFault> {
         let form = F::symbol();
         let (time, rest) = TIME.read(line, Self::at(0))?;
-        let (_, rest) = Mark { letter: F::LETTER }.read(rest, Self::at(8))?;
+        let (_, rest) = Self::mark().read(rest, Self::at(8))?;
         let (order, rest) = ID.read(rest, Self::at(9))?;
         let (side, rest) = Letter(PhantomData).read(rest, Self::at(21))?;
         let (shares, rest) = SHARES.read(rest, Self::at(22))?;
@@ -116,7 +116,7 @@ impl<F: Form> Kind for OfForm<F> {
         let form = F::symbol();
         let terms = said.terms();
         TIME.put(room, 0, terms.time);
-        Mark { letter: F::LETTER }.put(room, 8, ());
+        Self::mark().put(room, 8, ());
         ID.put(room, 9, terms.order);
         Letter(PhantomData).put(room, 21, terms.side);
         SHARES.put(room, 22, terms.shares);

@@ -1,5 +1,5 @@
 // What a record says beside the terms of an order.
-ghost use Rattle.std.specs.Prelude.{◌≡◌, ℕ, List, [], ◌∷◌, Ok, Err, MatchResult};
+ghost use Rattle.std.specs.Prelude.{◌≡◌, ℕ, ◌+◌, List, [], ◌∷◌, Ok, Err, MatchResult};
 ghost use Rattle.layout.specs.Fields.{Field, read_fields, check_fields, put_fields};
 ghost use Rattle.layout.specs.Slots.{Slot};
 ghost use Rattle.fields.specs.Slots.{text_slot};
@@ -16,8 +16,8 @@ use layout::fault::FieldFault;
 use messages::code::{CUSTOMER, DISPLAY, Side, TradeSide};
 use messages::record::{AddOrder, AttributedAdd, Terms, Trade};
 
-// Where its line stands, the letter of the kind and the form in which it gives the symbol tell: the fields after the symbol start
-// later in the long form.
+// A record with the terms of an order and others. A line gives the others after the price, which ends later in the long form than in
+// the short one.
 pub trait Termed: Sized {
     type Side: Lettered;
 
@@ -67,7 +67,7 @@ impl Termed for AddOrder {
         letter: u8,
         form: Text,
     ) -> Result<AddOrder, FieldFault> {
-        let offset = 38 + form.width;
+        let offset = price_end(form);
         let (display, _) = DISPLAY.read(line, Place { letter, offset })?;
         Ok(AddOrder {
             terms: *given,
@@ -81,7 +81,7 @@ impl Termed for AddOrder {
     }
 
     fn put_others(&self, room: &mut [u8], form: Text) {
-        DISPLAY.put(room, 38 + form.width, self.display);
+        DISPLAY.put(room, price_end(form), self.display);
     }
 }
 
@@ -104,7 +104,7 @@ impl Termed for AttributedAdd {
         letter: u8,
         form: Text,
     ) -> Result<AttributedAdd, FieldFault> {
-        let end = 38 + form.width;
+        let end = price_end(form);
         let (display, rest) = DISPLAY.read(
             line,
             Place {
@@ -137,13 +137,13 @@ impl Termed for AttributedAdd {
     }
 
     fn check_others(&self, letter: u8, form: Text) -> Result<(), FieldFault> {
-        let offset = 39 + form.width;
+        let offset = price_end(form) + 1;
         PARTICIPANT.check(self.participant, Place { letter, offset })
     }
 
     fn put_others(&self, room: &mut [u8], form: Text) {
-        let end = 38 + form.width;
-        DISPLAY.put(room, end, self.add.display);
+        let end = price_end(form);
+        self.add.put_others(room, form);
         PARTICIPANT.put(room, end + 1, self.participant);
         CUSTOMER.put(room, end + 5, self.customer);
     }
@@ -168,7 +168,7 @@ impl Termed for Trade {
         letter: u8,
         form: Text,
     ) -> Result<Trade, FieldFault> {
-        let offset = 38 + form.width;
+        let offset = price_end(form);
         let (execution, _) = ID.read(line, Place { letter, offset })?;
         Ok(Trade {
             terms: *given,
@@ -177,11 +177,18 @@ impl Termed for Trade {
     }
 
     fn check_others(&self, letter: u8, form: Text) -> Result<(), FieldFault> {
-        let offset = 38 + form.width;
+        let offset = price_end(form);
         ID.check(self.execution, Place { letter, offset })
     }
 
     fn put_others(&self, room: &mut [u8], form: Text) {
-        ID.put(room, 38 + form.width, self.execution);
+        ID.put(room, price_end(form), self.execution);
     }
+}
+
+// Where the price ends: the other fields start there.
+fn price_end(form: Text) -> u8
+    ensures { result ≡ 38 + form.width }
+{
+    38 + form.width
 }

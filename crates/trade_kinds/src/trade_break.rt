@@ -5,7 +5,6 @@ ghost use Rattle.messages.specs.Types.{TradeBreak as kind};
 ghost use Rattle.messages.specs.Values.{break_values};
 
 use fields::field::Field;
-use fields::mark::Mark;
 use fields::numeral::{ID, TIME};
 use layout::fault::FieldFault;
 use messages::kind::Kind;
@@ -43,10 +42,7 @@ impl Kind for TradeBreak {
 
     fn read(line: &[u8]) -> Result<Break, FieldFault> {
         let (time, rest) = TIME.read(line, Self::at(0))?;
-        let (_, rest) = Mark {
-            letter: Self::LETTER,
-        }
-        .read(rest, Self::at(8))?;
+        let (_, rest) = Self::mark().read(rest, Self::at(8))?;
         let (execution, _) = ID.read(rest, Self::at(9))?;
         Ok(Break { time, execution })
     }
@@ -58,10 +54,7 @@ impl Kind for TradeBreak {
 
     fn put(broken: &Break, room: &mut [u8]) {
         TIME.put(room, 0, broken.time);
-        Mark {
-            letter: Self::LETTER,
-        }
-        .put(room, 8, ());
+        Self::mark().put(room, 8, ());
         ID.put(room, 9, broken.execution);
     }
 }

@@ -1,19 +1,20 @@
-use Rattle.std.proofs.Common.{◌≡◌, ℕ, List, length, Result, refl, sym, ap, ◌∙◌, arith}
-use Rattle.layout.specs.Slots.{over, scan_slot, spell, is_read_again}
+use Rattle.std.proofs.Common.{◌≡◌, ℕ, eqb, Ok, Err, Result, ap, ◌∙◌, arith, MatchResult}
+use Rattle.std.specs.Result.{result_eq}
+use Rattle.layout.specs.Slots.{scan_slot, spell, is_read_again}
 use Rattle.layout.proofs.Writing.{length-digit_bytes, scan-over}
-use Rattle.fields.specs.declared.padded.Text.{Text}
 use Rattle.fields.specs.Slots.{text_slot}
 use Rattle.fields.proofs.text.TextField.gives.Goals as goal
 
--- what the walk over the written bytes found is what it finds in the number's own
-read_back : (f : Text) (v : ℕ) (xs : List ℕ) (r : Result ℕ ℕ) → length xs ≡ 8 → r ≡ scan_slot (text_slot f) (over 0 (spell (text_slot f) v) xs) → is_read_again v r ≡ is_read_again v (scan_slot (text_slot f) (spell (text_slot f) v))
-read_back f v xs r eight e =
+-- what the walk answered is compared with the number
+compared : (v : ℕ) (r walk : Result ℕ ℕ) → MatchResult r (λ w. walk ≡ Ok w) (λ i. walk ≡ Err i) → result_eq eqb eqb r (Ok v) ≡ is_read_again v walk
+compared v (Ok w) walk h = rw h
+compared v (Err i) walk h = rw h
+
+-- and over the written bytes it is what it is over the number's own
+pub returns : goal.returns
+returns c =
+    let f = c.args.self in
     let within = f.inside in
     let fits = f.fits in
-    ap (is_read_again v) (e ∙ scan-over (text_slot f) (spell (text_slot f) v) xs (length-digit_bytes 256 f.width _) (omega arith))
-
-pub returns-in-Ok : goal.returns-in-Ok
-returns-in-Ok c = read_back c.args.self c.args.value _ _ refl (sym c.in-Ok.ensures ∙ ap (scan_slot (text_slot c.args.self)) c.put.ensures)
-
-pub returns-in-Err : goal.returns-in-Err
-returns-in-Err c = read_back c.args.self c.args.value _ _ refl (sym c.in-Err.ensures ∙ ap (scan_slot (text_slot c.args.self)) c.put.ensures)
+    let walk = scan-over (text_slot f) (spell (text_slot f) c.args.value) _ (length-digit_bytes 256 f.width _) (omega arith) in
+    c.eq.ensures ∙ compared c.args.value c.scan.result _ c.scan.ensures ∙ ap (is_read_again c.args.value) (ap (scan_slot (text_slot f)) c.put.ensures ∙ walk)
