@@ -30,14 +30,17 @@ fn first_picked<R: Record, P: Pick<R>>(
     from: usize,
     to: usize,
 ) -> Option<Found<R>>
-    requires { to ≤ length slots.now }
+    requires ordered { from ≤ to }
+    requires inside { to ≤ length slots.now }
     ensures { PickedIn (P.Pick.picked pick.now) slots.now from to result }
 {
-    // The place is part of the answer; of a `find_map` over the places no proof was found.
-    for place in from..to {
-        if let Some(item) = slots[place] {
+    for (i, slot) in slots[from..to].iter().enumerate() {
+        if let Some(item) = *slot {
             if pick.picks(item) {
-                return Some(Found { place, item });
+                return Some(Found {
+                    place: from + i,
+                    item,
+                });
             }
         }
     }
