@@ -36,12 +36,12 @@ fn nearer<R: Record>(found: Option<R>, key: u64, best: Option<R>) -> Option<R>
 pub(crate) fn next_held<R: Record>(slots: &[Option<R>], place: u64) -> Option<Visit<R>>
     ensures { Visited (λ p. held (drop p slots.now)) place result }
 {
-    // The place to go on from is part of the answer.
-    for at in place..slots.len() as u64 {
-        if let Some(record) = slots[at as usize] {
+    let after = slots.get(place as usize..)?;
+    for (i, slot) in after.iter().enumerate() {
+        if let Some(record) = *slot {
             return Some(Visit {
                 record,
-                next: Some(at + 1),
+                next: Some(place + i as u64 + 1),
             });
         }
     }
