@@ -71,17 +71,17 @@ pub(crate) fn sweep_slots<R: Record, P: Pick<R>, M: Measure<R>>(
     ensures { SweptOut R.Record.key (P.Pick.picked pick.now) (M.Measure.given measure.now) M.Out.Tally.none M.Out.Tally.joining reach count slots.old slots.new result }
 {
     let mut given = M::Out::empty();
-    let mut left = count;
     let mut from = 0;
-    // What is left is part of the answer, and tells that nothing more can be picked.
-    while left > 0 {
+    for taken in 0..count {
         let Some(found) = next_picked(slots, pick, from) else {
-            break;
+            return Swept {
+                given,
+                left: count - taken,
+            };
         };
         take_at(slots, found.place, reach);
         given = given.join(measure.of(found.item));
-        left -= 1;
         from = found.place;
     }
-    Swept { given, left }
+    Swept { given, left: 0 }
 }
