@@ -30,8 +30,7 @@ fn first_picked<R: Record, P: Pick<R>>(
     from: usize,
     to: usize,
 ) -> Option<Found<R>>
-    requires ordered { from ≤ to }
-    requires inside { to ≤ length slots.now }
+    requires { (from ≤ to) × (to ≤ length slots.now) }
     ensures { PickedIn (P.Pick.picked pick.now) slots.now from to result }
 {
     for (i, slot) in slots[from..to].iter().enumerate() {
