@@ -36,7 +36,7 @@ fn nearer<R: Record>(found: Option<R>, key: u64, best: Option<R>) -> Option<R>
 pub(crate) fn next_held<R: Record>(slots: &[Option<R>], place: u64) -> Option<Visit<R>>
     ensures { Visited (λ p. held (drop p slots.now)) place result }
 {
-    // The place to go on from is part of the answer.
+    // Over `slots.get(place as usize..)?.iter().enumerate()` it proves, but a walk over slots 90 of 100 full takes 7 parts in 100 longer.
     for at in place..slots.len() as u64 {
         if let Some(record) = slots[at as usize] {
             return Some(Visit {

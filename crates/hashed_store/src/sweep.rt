@@ -30,14 +30,16 @@ fn first_picked<R: Record, P: Pick<R>>(
     from: usize,
     to: usize,
 ) -> Option<Found<R>>
-    requires { to ≤ length slots.now }
+    requires { (from ≤ to) × (to ≤ length slots.now) }
     ensures { PickedIn (P.Pick.picked pick.now) slots.now from to result }
 {
-    // The place is part of the answer; of a `find_map` over the places no proof was found.
-    for place in from..to {
-        if let Some(item) = slots[place] {
+    for (i, slot) in slots[from..to].iter().enumerate() {
+        if let Some(item) = *slot {
             if pick.picks(item) {
-                return Some(Found { place, item });
+                return Some(Found {
+                    place: from + i,
+                    item,
+                });
             }
         }
     }
@@ -68,17 +70,17 @@ pub(crate) fn sweep_slots<R: Record, P: Pick<R>, M: Measure<R>>(
     ensures { SweptOut R.Record.key (P.Pick.picked pick.now) (M.Measure.given measure.now) M.Out.Tally.none M.Out.Tally.joining reach count slots.old slots.new result }
 {
     let mut given = M::Out::empty();
-    let mut left = count;
     let mut from = 0;
-    // What is left is part of the answer, and tells that nothing more can be picked.
-    while left > 0 {
+    for taken in 0..count {
         let Some(found) = next_picked(slots, pick, from) else {
-            break;
+            return Swept {
+                given,
+                left: count - taken,
+            };
         };
         take_at(slots, found.place, reach);
         given = given.join(measure.of(found.item));
-        left -= 1;
         from = found.place;
     }
-    Swept { given, left }
+    Swept { given, left: 0 }
 }

@@ -10,7 +10,8 @@ use store::record::Record;
 use tally::measure::Measure;
 use tally::tally::Tally;
 
-// The rows that stay move down over those that go, by their places: a slice has no `retain`, and each row is read before it is written over.
+// The rows that stay move down over those that go, by their places: a slice has no `retain` or `extract_if`, and no iterator over it lends a row
+// together with the place that it moves to.
 pub(crate) fn sweep_rows<R: Record, P: Pick<R>, M: Measure<R>>(
     rows: &mut [R],
     count: &mut usize,
