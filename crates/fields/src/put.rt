@@ -1,6 +1,6 @@
 // Writing bytes over those of a buffer.
 //
-// That a base has two digits at least is a fact of each sort of field (`Number`, `Text`); a type for it would serve the two functions here alone.
+// What is required of a base here is a fact of each sort of field (`Number`, `Text`): a type for it would stand between them and three private functions, and spare one clause.
 ghost use Rattle.std.specs.Prelude.{◌≡◌, ◌<◌, ◌≤◌, [], ◌∷◌, length};
 ghost use Rattle.layout.specs.Bytes.{byte_within};
 ghost use Rattle.layout.specs.Digits.{digit_bytes};

@@ -79,7 +79,7 @@ fn in_class(class: Class, byte: u8) -> bool
     }
 }
 
-// The number with so many spaces after it.
+// The number with so many spaces after it. Step by step, here and below, since 256^8 does not fit a `u64`.
 fn filled(value: u64, count: u8) -> u64
     requires { (count ≤ 8) × (value < 256 ^ (8 - count)) }
     ensures { result ≡ number_from_digits_after 256 value (replicate count 32) }

@@ -15,7 +15,7 @@ pub(crate) fn next_over<R: Record>(slots: &[Option<R>], hole: usize, reach: usiz
 {
     let count = slots.len();
     let mut place = next(hole, count);
-    // The distance tells whether a way goes over the hole.
+    // The distance tells whether a way goes over the hole; the place goes on beside it, as in a search.
     for distance in 1..span(reach, count) {
         let held = slots[place]?;
         if steps(home(held.key(), count), place, count) >= distance {

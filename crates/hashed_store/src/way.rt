@@ -25,7 +25,7 @@ pub(crate) fn way<R: Record>(slots: &[Option<R>], key: u64, most: usize) -> Endi
         return Ending::Past;
     }
     let mut place = home(key, count);
-    // The steps taken are part of the answer.
+    // The steps taken are part of the answer. The place goes on beside them, since from the home and the steps it would cost a test for the end each time.
     for taken in 0..most {
         match &slots[place] {
             None => return Ending::Gap(place, taken),

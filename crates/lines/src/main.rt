@@ -15,7 +15,7 @@ const CHUNK: usize = 65_536;
 fn main(rt: HostRuntime) -> io::Result<()> {
     let mut listing = Listing::new(rt.alloc());
     let mut chunk = vec![in rt.alloc(); 0u8; CHUNK]?;
-    // Nothing says that the input ends, so the turns are counted.
+    // Nothing says that the input ends, and no handle to wait without end is used here: so the turns are counted.
     for _ in 0..u64::MAX {
         let count = rt.stdin().read(chunk.as_mut_slice())?;
         if count == 0 {

@@ -15,7 +15,8 @@ use order_kinds::executed::OrderExecuted;
 use trade_kinds::trade::{TradeLong, TradeShort};
 use trade_kinds::trade_break::TradeBreak;
 
-// Writes the message's line into the buffer from the place on, and answers its length.
+// Writes the message's line into the buffer from the place on, and answers its length. The two are the caller's, who may write one line after another into one
+// buffer: a struct of both would be made for one call.
 pub fn write(message: &Message, buf: &mut [u8], place: usize) -> Result<usize, MessageFault>
     ensures says { result ≡ fitted message.now place (length buf.old) (checked message.now) }
     ensures leaves { buf.new ≡ placed message.now place buf.old (checked message.now) }

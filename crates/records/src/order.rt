@@ -21,7 +21,7 @@ pub struct Order {
 }
 
 impl Order {
-    // What new memory for orders holds, until the store over it is emptied.
+    // Nothing said of an order: what new memory for orders holds until the store over it is emptied, and what fields that are not given are.
     pub const BLANK: Order = Order {
         id: 0,
         symbol: 0,

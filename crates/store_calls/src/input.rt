@@ -12,7 +12,7 @@ use std::io::BufRead;
 // The next line; a last one without a line end counts unless it is empty.
 pub fn next_line<R: BufRead>(input: &mut R) -> io::Result<Option<LineBuffer>> {
     let mut line = LineBuffer::new();
-    // Nothing says that the input ends, so the turns are counted.
+    // Nothing says that the input ends, and no handle to wait without end is used here: so the turns are counted.
     for _ in 0..u64::MAX {
         let bytes = input.fill_buf()?;
         let count = bytes.len();

@@ -11,7 +11,7 @@ use std::io::{BufRead, Write};
 pub fn run<R: BufRead, W: Write>(heap: Global, input: &mut R, output: &mut W) -> io::Result<()> {
     let mut session = Session::new(heap, input, output);
     let mut next = serve(&mut session, |_| Reply::NoneOpen)?;
-    // Nothing says that the input ends, so the turns are counted.
+    // Nothing says that the input ends, and no handle to wait without end is used here: so the turns are counted.
     for _ in 0..u64::MAX {
         let Some(opening) = next else {
             break;

@@ -12,7 +12,7 @@ pub(crate) fn serve<R: BufRead, W: Write, F: FnMut(Call) -> Reply>(
 ) -> io::Result<Option<Opening>>
     requires { F.IsAlwaysCallable answer }
 {
-    // Nothing says that the input ends, so the turns are counted.
+    // Nothing says that the input ends, and no handle to wait without end is used here: so the turns are counted.
     for _ in 0..u64::MAX {
         match session.next_request()? {
             Some(Request::Ask(call)) => session.reply(answer(call))?,

@@ -33,7 +33,7 @@ impl<'a, R: BufRead, W: Write> Session<'a, R, W> {
 
     // What the next line that is a call asks for, or none at the end of the input.
     pub fn next_request(&mut self) -> io::Result<Option<Request>> {
-        // Nothing says that the input ends, so the turns are counted.
+        // Nothing says that the input ends, and no handle to wait without end is used here: so the turns are counted.
         for _ in 0..u64::MAX {
             let Some(line) = next_line(self.input)? else {
                 break;
