@@ -39,7 +39,7 @@ impl Listing {
         }
     }
 
-    // Takes the next bytes of the capture, in which lines may end and one may begin.
+    // Takes the next bytes of the capture, in which lines may end and one may begin. The benchmark's call goes through its buffer so too, but no line of it can fail.
     pub fn take(&mut self, chunk: &[u8]) -> Result<(), AllocError>
         ensures { Even self.old.totals → Even self.new.totals }
     {

@@ -1,5 +1,5 @@
-// The interface of a kind of message. A kind goes through its fields three times, to read, to check and to write them: one list of them, as a type of nested pairs, would hide
-// the names and the offsets, and is no plainer.
+// The interface of a kind of message. A kind goes through its fields three times, to read, to check and to write them, and each step of reading answers a field and the rest
+// of the line. One list of the fields, as a type of nested pairs, would hide the names and the offsets, and is no plainer.
 ghost use Rattle.std.specs.Prelude.{◌≡◌, ℕ, List, Ok, Err, MatchResult};
 ghost use Rattle.layout.specs.Fields.{Field, read_fields, check_fields, put_fields};
 ghost use Rattle.fields.specs.declared.mark.Mark.{Mark};

@@ -14,7 +14,7 @@ use sum::add_line;
 pub extern "C" fn read_capture(buf: &[u8]) -> u64
     ensures { result ≡ checksum buf.now }
 {
-    // As a listing goes through its chunks, but for the last line, which counts there: one loop for both would take a closure that may fail.
+    // As a listing goes through its chunks, where a line may fail for want of memory: one loop for both would take a closure and its error.
     let mut sum = 0;
     let mut rest = buf;
     loop {
