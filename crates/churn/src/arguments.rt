@@ -11,6 +11,8 @@ pub struct Sizes {
     pub pairs: u64,
 }
 
+// The two words stay as they were given: beside a name and `all` there is a third case, a word that names nothing and runs nothing, which no `Option`
+// has.
 #[derive(Drop)]
 pub struct Arguments {
     // a store's name, or `all`

@@ -27,6 +27,7 @@ impl Kind {
     }
 }
 
+// The name stands in a method because arguments are looked up by it too.
 impl fmt::Display for Kind {
     fn fmt<W: fmt::Write>(&self, f: &mut fmt::Formatter<W>) -> fmt::Result {
         f.write_str(self.name())

@@ -26,7 +26,7 @@ impl Load {
     }
 }
 
-// As for the stores, whose names are others: arguments are looked up by name too.
+// The name stands in a method because arguments are looked up by it too.
 impl fmt::Display for Load {
     fn fmt<W: fmt::Write>(&self, f: &mut fmt::Formatter<W>) -> fmt::Result {
         f.write_str(self.name())

@@ -18,7 +18,7 @@ pub fn order_of(id: u64) -> Order {
     }
 }
 
-// The sum with one order more.
+// The sum with one order more. The two enums get numbers of the sum's own: by `as` these would hang on the order of another crate's variants.
 pub fn mixed(sum: u64, order: &Order) -> u64 {
     let side = match order.side {
         Side::Buy => 1,

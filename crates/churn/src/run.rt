@@ -19,113 +19,101 @@ use tally::sum::Counting;
 // A million calls.
 const PART: u64 = 500_000;
 
+// What every part of a run goes by.
+#[derive(Drop)]
+struct Bench<'a> {
+    rt: &'a HostRuntime,
+    asked: &'a Arguments,
+    // the IDs of the orders that live
+    live: &'a mut [u64],
+}
+
 // Runs the load, or all of them, on the store, or on each.
 pub fn run(rt: &HostRuntime) -> anyhow::Result<()> {
     let asked = read(rt)?;
     let mut live = vec![in rt.alloc(); 0u64; asked.sizes.live]?;
+    let mut bench = Bench {
+        rt,
+        asked: &asked,
+        live: live.as_mut_slice(),
+    };
     for kind in KINDS {
         if asked.names(kind) {
-            run_kind(rt, kind, live.as_mut_slice(), &asked)?;
+            bench.run_kind(kind)?;
         }
     }
     Ok(())
 }
 
-// Lends new memory to a store.
-fn run_kind(
-    rt: &HostRuntime,
-    kind: Kind,
-    live: &mut [u64],
-    asked: &Arguments,
-) -> anyhow::Result<()> {
-    println!(rt; "(store {kind})")?;
-    let slots = asked.sizes.slots;
-    match kind {
-        Kind::Row | Kind::FrontRow => {
-            let mut rows = vec![in rt.alloc(); Order::BLANK; slots]?;
-            run_over(rt, kind, RowStore::new(rows.as_mut_slice()), live, asked)?;
+impl<'a> Bench<'a> {
+    // Lends new memory to a store.
+    fn run_kind(&mut self, kind: Kind) -> anyhow::Result<()> {
+        println!(self.rt; "(store {kind})")?;
+        let slots = self.asked.sizes.slots;
+        match kind {
+            Kind::Row | Kind::FrontRow => {
+                let mut rows = vec![in self.rt.alloc(); Order::BLANK; slots]?;
+                self.run_over(kind, RowStore::new(rows.as_mut_slice()))?;
+            }
+            Kind::Hashed | Kind::FrontHashed => {
+                let mut slots = vec![in self.rt.alloc(); None; slots]?;
+                self.run_over(kind, HashedStore::new(slots.as_mut_slice()))?;
+            }
         }
-        Kind::Hashed | Kind::FrontHashed => {
-            let mut slots = vec![in rt.alloc(); None; slots]?;
-            run_over(
-                rt,
-                kind,
-                HashedStore::new(slots.as_mut_slice()),
-                live,
-                asked,
-            )?;
-        }
+        Ok(())
     }
-    Ok(())
-}
 
-// Behind a front, or plain.
-fn run_over<S: Store<Order> + Drop>(
-    rt: &HostRuntime,
-    kind: Kind,
-    below: S,
-    live: &mut [u64],
-    asked: &Arguments,
-) -> io::Result<()> {
-    if kind.has_front() {
-        run_loads(rt, FrontRow::new(below), live, asked)
-    } else {
-        run_loads(rt, below, live, asked)
-    }
-}
-
-fn run_loads<S: Store<Order> + Drop>(
-    rt: &HostRuntime,
-    mut store: S,
-    live: &mut [u64],
-    asked: &Arguments,
-) -> io::Result<()> {
-    for load in LOADS {
-        if asked.takes(load) {
-            run_load(rt, load, &mut store, live, asked)?;
+    // Behind a front, or plain.
+    fn run_over<S: Store<Order> + Drop>(&mut self, kind: Kind, below: S) -> io::Result<()> {
+        if kind.has_front() {
+            self.run_loads(FrontRow::new(below))
+        } else {
+            self.run_loads(below)
         }
     }
-    Ok(())
-}
 
-fn run_load<S: Store<Order>>(
-    rt: &HostRuntime,
-    load: Load,
-    store: &mut S,
-    live: &mut [u64],
-    asked: &Arguments,
-) -> io::Result<()> {
-    let mut feed = Feed::new(load);
-    let mut counts = Counts::default();
-    store.empty();
-    let mut watch = Watch::new(rt, asked.timed)?;
-    counts.fill(store, &mut feed, live);
-    watch.lap(rt, "fill", live.len() as u64)?;
-    let pairs = asked.sizes.pairs;
-    for first in (0..pairs).step_by(PART as usize) {
-        let part = PART.min(pairs - first);
-        counts.churn(store, &mut feed, live, part);
-        watch.lap(rt, "churn", part * 2)?;
+    fn run_loads<S: Store<Order> + Drop>(&mut self, mut store: S) -> io::Result<()> {
+        for load in LOADS {
+            if self.asked.takes(load) {
+                self.run_load(load, &mut store)?;
+            }
+        }
+        Ok(())
     }
-    walk_and_sweep(rt, store, &mut counts, &mut watch)?;
-    println!(rt; "({load} {counts})")
-}
 
-// Walks over what is held, sweeps, walks again, and once more when the store is emptied.
-fn walk_and_sweep<S: Store<Order>>(
-    rt: &HostRuntime,
-    store: &mut S,
-    counts: &mut Counts,
-    watch: &mut Watch,
-) -> io::Result<()> {
-    counts.met = walk(store, &Counting).number;
-    watch.lap(rt, "walk", counts.met)?;
-    counts.swept = remove_picked(store, &Even, &Counting).number;
-    watch.lap(rt, "sweep", counts.met)?;
-    counts.kept = walk(store, &Counting).number;
-    watch.lap(rt, "walk-kept", counts.kept)?;
-    store.empty();
-    watch.lap(rt, "empty", 1)?;
-    counts.left = walk(store, &Counting).number;
-    watch.lap(rt, "walk-emptied", counts.left)
+    fn run_load<S: Store<Order>>(&mut self, load: Load, store: &mut S) -> io::Result<()> {
+        let mut feed = Feed::new(load);
+        let mut counts = Counts::default();
+        store.empty();
+        let mut watch = Watch::new(self.rt, self.asked.timed)?;
+        counts.fill(store, &mut feed, self.live);
+        watch.lap(self.rt, "fill", self.live.len() as u64)?;
+        let pairs = self.asked.sizes.pairs;
+        for first in (0..pairs).step_by(PART as usize) {
+            let part = PART.min(pairs - first);
+            counts.churn(store, &mut feed, self.live, part);
+            watch.lap(self.rt, "churn", part * 2)?;
+        }
+        self.walk_and_sweep(store, &mut counts, &mut watch)?;
+        println!(self.rt; "({load} {counts})")
+    }
+
+    // Walks over what is held, sweeps, walks again, and once more when the store is emptied.
+    fn walk_and_sweep<S: Store<Order>>(
+        &self,
+        store: &mut S,
+        counts: &mut Counts,
+        watch: &mut Watch,
+    ) -> io::Result<()> {
+        counts.met = walk(store, &Counting).number;
+        watch.lap(self.rt, "walk", counts.met)?;
+        counts.swept = remove_picked(store, &Even, &Counting).number;
+        watch.lap(self.rt, "sweep", counts.met)?;
+        counts.kept = walk(store, &Counting).number;
+        watch.lap(self.rt, "walk-kept", counts.kept)?;
+        store.empty();
+        watch.lap(self.rt, "empty", 1)?;
+        counts.left = walk(store, &Counting).number;
+        watch.lap(self.rt, "walk-emptied", counts.left)
+    }
 }

@@ -50,8 +50,9 @@ pub(crate) fn replace_row<R: Record>(
 pub(crate) fn remove_row<R: Record>(rows: &mut [R], count: &mut usize, key: u64) -> Option<R>
     ensures { InOrder R.Record.key count.old rows.old → Changed R.Record.key (λ m. lookup R.Record.key key m.rows) (removing R.Record.key key) result count.old count.new rows.old rows.new }
 {
-    let n = (*count).min(rows.len());
-    let place = seek(&rows[..n], key).ok()?;
+    let records = held(rows, *count);
+    let n = records.len();
+    let place = seek(records, key).ok()?;
     let out = rows[place];
     move_down(rows, place, n);
     *count = n - 1;
