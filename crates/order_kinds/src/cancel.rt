@@ -1,4 +1,4 @@
-// Order Cancel: X.
+// Order Cancel: X. Three lists of its own fields; `Kind` says why these are written out.
 ghost use Rattle.std.specs.Prelude.{refl};
 ghost use Rattle.messages.specs.Layouts.{layout_of};
 ghost use Rattle.messages.specs.Types.{OrderCancel as kind};

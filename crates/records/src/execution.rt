@@ -17,7 +17,7 @@ pub struct Execution {
     pub broken: bool,
 }
 
-// Kept by Execution ID.
+// Kept by Execution ID. An impl of its own, since all that it says is which field that is.
 impl Record for Execution {
     ghost key = { λ e. e.id % 2 ^ 64 };
 

@@ -1,4 +1,4 @@
-// What is kept of a day's trading. Each record says itself which of its numbers is its key: its impl of `Record` names that field, and there is nothing else in it to share.
+// What is kept of a day's trading.
 #![tactic(auto)]
 
 mod arithmetic;

@@ -26,7 +26,7 @@ impl SymbolRow {
     }
 }
 
-// Kept by the symbol's number.
+// Kept by the symbol's number. An impl of its own, since all that it says is which field that is.
 impl Record for SymbolRow {
     ghost key = { λ r. r.symbol % 2 ^ 64 };
 

@@ -1,4 +1,4 @@
-// Trade, in its short and in its long form.
+// Trade, in its short and in its long form: a row of constants each, with what ties it to the layout table.
 ghost use Rattle.std.specs.Prelude.{refl};
 ghost use Rattle.messages.specs.Layouts.{short_symbol, long_symbol};
 ghost use Rattle.messages.specs.Types as kind;
