@@ -50,6 +50,7 @@ impl<'a> Bench<'a> {
     fn run_kind(&mut self, kind: Kind) -> anyhow::Result<()> {
         println!(self.rt; "(store {kind})")?;
         let slots = self.asked.sizes.slots;
+        // An arm for each sort of memory, since a store borrows it. `store_calls` has the same two, and does something else over the stores.
         match kind {
             Kind::Row | Kind::FrontRow => {
                 let mut rows = vec![in self.rt.alloc(); Order::BLANK; slots]?;
