@@ -5,5 +5,6 @@ pub mod Letters
 pub mod Lines
 pub mod Promises
 pub mod Refusals
+pub mod Telling
 pub mod Types
 pub mod Values

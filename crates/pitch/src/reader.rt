@@ -3,6 +3,7 @@ ghost use Rattle.std.specs.Prelude.{◌≡◌, Some, Ok, Err, MatchResult, slice
 ghost use Rattle.messages.specs.Layouts.{letter_of};
 ghost use Rattle.messages.specs.Lines.{line_read, kind_read, read_row, told};
 ghost use Rattle.messages.specs.Promises.{Reading, SymbolsAgree};
+ghost use Rattle.messages.specs.Telling.{line_message};
 
 use layout::fault::FieldFault;
 use messages::fault::MessageFault;
@@ -18,6 +19,7 @@ use trade_kinds::trade_break::TradeBreak;
 // The message that the line is, or why it is none.
 pub fn read(line: &[u8]) -> Result<Message, MessageFault>
     ensures value { MatchResult result (λ m. line_read line.now ≡ Ok (told m)) (λ e. line_read line.now ≡ Err e) }
+    ensures message { result ≡ line_message line.now }
     ensures promise { Reading line.now result }
     ensures symbols { SymbolsAgree }
 {

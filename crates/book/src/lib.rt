@@ -1,0 +1,4 @@
+// What rests and what has traded, told by tallies.
+#![tactic(auto)]
+
+pub mod types;

@@ -1,0 +1,90 @@
+-- What ties the accepted messages of a log to the day after it.
+use Rattle.std.proofs.Common.{◌≡◌, ℕ, ◌+◌, ◌*◌, ◌^◌, ◌<◌, ◌≤◌, cond, eqb, false, List, [], ◌∷◌, length, Some, None, Option}
+use Rattle.records.specs.declared.order.Order.{Order}
+use Rattle.records.specs.declared.execution.Execution.{Execution}
+use Rattle.records.specs.declared.symbol_row.SymbolRow.{SymbolRow}
+use Rattle.records.specs.Keys.{order_key, execution_key, symbol_key}
+use Rattle.store.specs.Lists.{Each, Rising, lookup}
+use Rattle.book.specs.Books.{sum}
+use Rattle.day_rules.specs.Days.{Day, greatest_limit}
+use Rattle.day_rules.specs.Events.{Event, clears, adds, executes, cancels, trades, breaks}
+use Rattle.day_rules.specs.Laws.{IsLeft, volume_in, value_in}
+use Rattle.day_rules.specs.Words.{History, Accepted, last_add, since_add, clear_among, taken_off, shares_added, shares_taken, shares_cleared, fills, times_broken}
+
+-- what a line can say: an ID and a symbol of 64 bits, six digits of shares, ten of a price
+abbrev pub EventFits : Event → Type 0
+EventFits (clears s) = s < 2 ^ 64
+EventFits (adds o) = (o.id < 2 ^ 64) × (o.symbol < 2 ^ 64) × (o.shares ≤ 999999)
+EventFits (executes i n x) = (i < 2 ^ 64) × (n ≤ 999999) × (x < 2 ^ 64)
+EventFits (cancels i n) = i < 2 ^ 64
+EventFits (trades e) = (e.id < 2 ^ 64) × (e.symbol < 2 ^ 64) × (e.shares ≤ 999999) × (e.price ≤ 9999999999) × (e.broken ≡ false)
+EventFits (breaks x) = x < 2 ^ 64
+
+-- Orders.
+
+-- an order that rests: as its last accepted add had it, less what was taken off since
+pub record Resting (h : History) (id : ℕ) (o : Order) : Type 0 where
+  pub added : Order
+  pub last : last_add id h ≡ Some added
+  pub same_id : o.id ≡ id
+  pub same_symbol : added.symbol ≡ o.symbol
+  pub same_price : added.price ≡ o.price
+  pub no_clear : clear_among added.symbol (since_add id h) ≡ false
+  pub left : o.shares + taken_off id (since_add id h) ≡ added.shares
+
+abbrev pub OrderStands : History → ℕ → Option Order → Type 0
+OrderStands h id None = IsLeft h id 0
+OrderStands h id (Some o) = Resting h id o
+
+-- an order's shares, if it is of the symbol
+abbrev pub shares_if : ℕ → Order → ℕ
+shares_if s o = cond (eqb o.symbol s) o.shares 0
+
+pub record OrdersStand (h : History) (os : List Order) : Type 0 where
+  pub rising : Rising order_key os
+  pub narrow : Each (λ o. (o.id < 2 ^ 64) × (o.price ≤ 9999999999)) os
+  pub each : (id : ℕ) → OrderStands h id (lookup order_key id os)
+  pub balance : (s : ℕ) → shares_added s h ≡ sum (shares_if s) os + shares_taken s h + shares_cleared s h
+
+-- Executions.
+
+-- how often it was broken
+abbrev pub broken_times : Option Execution → ℕ
+broken_times None = 0
+broken_times (Some e) = cond e.broken 1 0
+
+-- of an accepted execution or trade, by the log
+abbrev pub unless_broken : (Execution → ℕ) → History → Execution → ℕ
+unless_broken w h e = cond (eqb (times_broken e.id h) 0) (w e) 0
+
+-- of a stored one
+abbrev pub unless_marked : (Execution → ℕ) → Execution → ℕ
+unless_marked w e = cond e.broken 0 (w e)
+
+-- the unbroken ones stored are those of the log: whatever is counted of each, it comes to the same
+pub record FillsStand (h : History) (es : List Execution) : Type 0 where
+  pub rising : Rising execution_key es
+  pub narrow : Each (λ e. e.id < 2 ^ 64) es
+  pub marks : (x : ℕ) → times_broken x h ≡ broken_times (lookup execution_key x es)
+  pub same : (w : Execution → ℕ) → sum (unless_broken w h) (fills h) ≡ sum (unless_marked w) es
+
+-- Rows.
+
+abbrev pub if_of : (Execution → ℕ) → ℕ → Execution → ℕ
+if_of w s e = cond (eqb e.symbol s) (w e) 0
+
+pub record RowsStand (es : List Execution) (rs : List SymbolRow) : Type 0 where
+  pub rising : Rising symbol_key rs
+  pub narrow : Each (λ r. r.symbol < 2 ^ 64) rs
+  pub volume : (s : ℕ) → volume_in (lookup symbol_key s rs) ≡ sum (unless_marked (if_of (λ e. e.shares) s)) es
+  pub value : (s : ℕ) → value_in (lookup symbol_key s rs) ≡ sum (unless_marked (if_of (λ e. e.shares * e.price) s)) es
+
+-- All of it.
+pub record Stands (h : History) (d : Day) : Type 0 where
+  pub fits : Each (λ a. EventFits a.event) h
+  pub count : d.accepted ≡ length h
+  pub day_limit : d.day_limit ≤ greatest_limit
+  pub within : d.accepted ≤ greatest_limit
+  pub orders : OrdersStand h d.orders.rows
+  pub fills : FillsStand h d.executions.rows
+  pub rows : RowsStand d.executions.rows d.symbols.rows

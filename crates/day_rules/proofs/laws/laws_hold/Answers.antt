@@ -1,0 +1,6 @@
+use Rattle.day_rules.specs.Laws.{EveryLog}
+use Rattle.day_rules.proofs.Standing.{Stands}
+use Rattle.day_rules.proofs.laws.laws_hold.Goals as goal
+
+pub returns : goal.returns
+returns c = ?

@@ -1,0 +1,72 @@
+-- What a log adds up to.
+use Rattle.std.specs.Prelude.{◌≡◌, ℕ, ◌+◌, ◌≤◌, true, false, Some, None, Option}
+use Rattle.messages.specs.declared.code.Side.TheVariants.{Buy, Sell}
+use Rattle.records.specs.declared.order.Order.{Order}
+use Rattle.records.specs.declared.symbol_row.SymbolRow.{SymbolRow}
+use Rattle.records.specs.Keys.{row_worth}
+use Rattle.day_rules.specs.Days.{Day}
+use Rattle.day_rules.specs.Log.{Log, Logged}
+use Rattle.day_rules.specs.Questions.{book_in}
+use Rattle.day_rules.specs.Rules.{order_in, row_in}
+use Rattle.day_rules.specs.Words.{History, history, last_add, since_add, clear_among, taken_off, shares_added, shares_taken, shares_cleared, times_broken, volume_of, value_of}
+
+-- What is asked after the log. A missing order or row counts as 0.
+
+-- the shares resting of a symbol: those of its book on both sides
+abbrev pub shares_resting : ℕ → Day → ℕ
+shares_resting symbol d = (book_in symbol Buy d).depth.shares.number + (book_in symbol Sell d).depth.shares.number
+
+-- the shares left of an order
+abbrev pub shares_of : Option Order → ℕ
+shares_of None = 0
+shares_of (Some o) = o.shares
+
+abbrev pub volume_in : Option SymbolRow → ℕ
+volume_in None = 0
+volume_in (Some r) = r.volume
+
+abbrev pub value_in : Option SymbolRow → ℕ
+value_in None = 0
+value_in (Some r) = row_worth r
+
+-- A symbol's shares: those of accepted adds are those resting, those of accepted executions and cancels, and those that accepted clears report.
+abbrev pub IsBalanced : History → (symbol resting : ℕ) → Type 0
+IsBalanced h symbol resting = shares_added symbol h ≡ resting + shares_taken symbol h + shares_cleared symbol h
+
+-- An order's shares: 0 for an ID that was never added; 0 if a clear of its last add's symbol came since; else that add's shares less those of the executions and cancels since.
+abbrev pub IsLeftOf : Option Order → (since : History) → (id left : ℕ) → Type 0
+IsLeftOf None since id left = left ≡ 0
+IsLeftOf (Some o) since id left =
+    (clear_among o.symbol since ≡ true → left ≡ 0) × (clear_among o.symbol since ≡ false → left + taken_off id since ≡ o.shares)
+
+abbrev pub IsLeft : History → (id left : ℕ) → Type 0
+IsLeft h id left = IsLeftOf (last_add id h) (since_add id h) id left
+
+-- A symbol's volume and value: the sums over its accepted, unbroken executions and trades.
+abbrev pub IsTraded : History → (symbol volume value : ℕ) → Type 0
+IsTraded h symbol volume value = (volume ≡ volume_of symbol h) × (value ≡ value_of symbol h)
+
+-- For every symbol and every Order ID.
+
+abbrev pub SharesBalance : Log → Day → Type 0
+SharesBalance log d = (symbol : ℕ) → IsBalanced (history log) symbol (shares_resting symbol d)
+
+abbrev pub OrdersAddUp : Log → Day → Type 0
+OrdersAddUp log d = (id : ℕ) → IsLeft (history log) id (shares_of (order_in id d))
+
+abbrev pub TurnoverAddsUp : Log → Day → Type 0
+TurnoverAddsUp log d = (symbol : ℕ) → IsTraded (history log) symbol (volume_in (row_in symbol d)) (value_in (row_in symbol d))
+
+-- no execution or trade is broken twice
+abbrev pub NoneBrokenTwice : Log → Type 0
+NoneBrokenTwice log = (x : ℕ) → times_broken x (history log) ≤ 1
+
+-- All this holds of every log since a ledger's opening, and of the day that the ledger keeps after it.
+pub record LogLaws (log : Log) (d : Day) : Type 0 where
+  pub shares_balance : SharesBalance log d
+  pub orders_add_up : OrdersAddUp log d
+  pub turnover_adds_up : TurnoverAddsUp log d
+  pub none_broken_twice : NoneBrokenTwice log
+
+abbrev pub EveryLog : Type 0
+EveryLog = (log : Log) (d : Day) → Logged log d → LogLaws log d

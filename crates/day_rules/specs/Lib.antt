@@ -1,0 +1,9 @@
+pub mod Days
+pub mod Events
+pub mod Faults
+pub mod Laws
+pub mod Log
+pub mod Questions
+pub mod Rows
+pub mod Rules
+pub mod Words

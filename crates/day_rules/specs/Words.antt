@@ -1,0 +1,150 @@
+-- What is said of a log: its accepted messages, and the orders, executions and breaks among them. These speak of lines and answers alone, and of no ledger.
+use Rattle.std.specs.Prelude.{ℕ, ◌+◌, ◌*◌, Bool, true, false, cond, ◌&&◌, ◌||◌, List, [], ◌∷◌, Some, None, Ok, Err, Option, Result, ◌==◌}
+use Rattle.messages.specs.declared.fault.MessageFault.{MessageFault}
+use Rattle.messages.specs.declared.message.Message.{Message}
+use Rattle.messages.specs.Telling.{line_message}
+use Rattle.records.specs.declared.order.Order.{Order}
+use Rattle.records.specs.declared.execution.Execution.{Execution}
+use Rattle.store.specs.Lists.{those}
+use Rattle.book.specs.Books.{sum}
+use Rattle.day_rules.specs.declared.outcome.Outcome.{Outcome}
+use Rattle.day_rules.specs.Events.{Event, clears, adds, executes, cancels, trades, breaks, event_of}
+use Rattle.day_rules.specs.Log.{Log, told, asked}
+
+-- an accepted message, by what its line says, and its answer
+pub record Accepted : Type 0 where
+  pub event : Event
+  pub outcome : Outcome
+
+-- accepted messages, the latest first
+abbrev pub History : Type 0
+History = List Accepted
+
+abbrev pub then_accepted : Result Message MessageFault → Outcome → History → History
+then_accepted (Ok m) a h = record { event = event_of m; outcome = a } ∷ h
+then_accepted (Err e) a h = h
+
+-- the accepted messages of a log: those answered without a refusal
+abbrev pub history : Log → History
+history [] = []
+history (told line (Ok a) ∷ log) = then_accepted (line_message line) a (history log)
+history (told line (Err e) ∷ log) = history log
+history (asked q r ∷ log) = history log
+
+-- Orders.
+
+-- the order that a message adds under the Order ID, or else an earlier one
+abbrev pub or_added : ℕ → Event → Option Order → Option Order
+or_added id (adds o) earlier = cond (o.id == id) (Some o) earlier
+or_added id event earlier = earlier
+
+-- the last accepted add of the Order ID
+abbrev pub last_add : ℕ → History → Option Order
+last_add id [] = None
+last_add id (a ∷ h) = or_added id a.event (last_add id h)
+
+abbrev pub is_add : ℕ → Event → Bool
+is_add id (adds o) = o.id == id
+is_add id event = false
+
+-- what was accepted since the last accepted add of the Order ID
+abbrev pub since_add : ℕ → History → History
+since_add id [] = []
+since_add id (a ∷ h) = cond (is_add id a.event) [] (a ∷ since_add id h)
+
+abbrev pub is_clear : ℕ → Event → Bool
+is_clear symbol (clears s) = s == symbol
+is_clear symbol event = false
+
+-- a clear of the symbol is among these
+abbrev pub clear_among : ℕ → History → Bool
+clear_among symbol [] = false
+clear_among symbol (a ∷ h) = is_clear symbol a.event || clear_among symbol h
+
+-- the shares that a message takes off the order with the Order ID
+abbrev pub off_order : ℕ → Event → ℕ
+off_order id (executes order shares execution) = cond (order == id) shares 0
+off_order id (cancels order shares) = cond (order == id) shares 0
+off_order id event = 0
+
+-- the shares that executions and cancels among these take off the order
+abbrev pub taken_off : ℕ → History → ℕ
+taken_off id h = sum (λ a. off_order id a.event) h
+
+-- Shares of a symbol.
+
+-- those that an add brings
+abbrev pub brought : ℕ → Event → ℕ
+brought symbol (adds o) = cond (o.symbol == symbol) o.shares 0
+brought symbol event = 0
+
+-- the shares of accepted adds
+abbrev pub shares_added : ℕ → History → ℕ
+shares_added symbol h = sum (λ a. brought symbol a.event) h
+
+-- so many shares, if they are of an order of the symbol
+abbrev pub if_symbol : ℕ → Option Order → ℕ → ℕ
+if_symbol symbol None n = 0
+if_symbol symbol (Some o) n = cond (o.symbol == symbol) n 0
+
+-- the shares that an execution or a cancel takes off an order of the symbol, by the order's last accepted add before it
+abbrev pub off_symbol : ℕ → Event → History → ℕ
+off_symbol symbol (executes order shares execution) before = if_symbol symbol (last_add order before) shares
+off_symbol symbol (cancels order shares) before = if_symbol symbol (last_add order before) shares
+off_symbol symbol event before = 0
+
+-- the shares of accepted executions and cancels
+abbrev pub shares_taken : ℕ → History → ℕ
+shares_taken symbol [] = 0
+shares_taken symbol (a ∷ h) = off_symbol symbol a.event h + shares_taken symbol h
+
+-- the shares that a clear of the symbol reports
+abbrev pub reported : ℕ → Event → Outcome → ℕ
+reported symbol (clears s) a = cond (s == symbol) a.shares 0
+reported symbol event a = 0
+
+-- the shares that accepted clears report
+abbrev pub shares_cleared : ℕ → History → ℕ
+shares_cleared symbol h = sum (λ a. reported symbol a.event a.outcome) h
+
+-- Executions and trades.
+
+-- an execution of so many shares of an order, at the order's price
+abbrev pub executed_at : (execution shares : ℕ) → Option Order → List Execution → List Execution
+executed_at x n None earlier = earlier
+executed_at x n (Some o) earlier = record { id = x; symbol = o.symbol; price = o.price; shares = n; broken = false } ∷ earlier
+
+-- with the execution or trade that a message is, an execution priced by its order's last accepted add before it, a trade by its own price
+abbrev pub then_fill : Event → History → List Execution → List Execution
+then_fill (executes order shares execution) before earlier = executed_at execution shares (last_add order before) earlier
+then_fill (trades e) before earlier = e ∷ earlier
+then_fill event before earlier = earlier
+
+-- all accepted executions and trades
+abbrev pub fills : History → List Execution
+fills [] = []
+fills (a ∷ h) = then_fill a.event h (fills h)
+
+abbrev pub breaks_of : ℕ → Event → ℕ
+breaks_of x (breaks execution) = cond (execution == x) 1 0
+breaks_of x event = 0
+
+-- how many accepted breaks carry the Execution ID
+abbrev pub times_broken : ℕ → History → ℕ
+times_broken x h = sum (λ a. breaks_of x a.event) h
+
+-- an execution or trade of the symbol that no accepted break carries the ID of
+abbrev pub counts_for : ℕ → History → Execution → Bool
+counts_for symbol h e = (e.symbol == symbol) && (times_broken e.id h == 0)
+
+-- the accepted, unbroken executions and trades of the symbol
+abbrev pub traded : ℕ → History → List Execution
+traded symbol h = those (counts_for symbol h) (fills h)
+
+-- their shares
+abbrev pub volume_of : ℕ → History → ℕ
+volume_of symbol h = sum (λ e. e.shares) (traded symbol h)
+
+-- their shares times their prices
+abbrev pub value_of : ℕ → History → ℕ
+value_of symbol h = sum (λ e. e.shares * e.price) (traded symbol h)
