@@ -1,0 +1,12 @@
+// The day ledger: one trading day, kept from the feed's lines over three stores.
+#![tactic(auto)]
+
+mod checks;
+mod events;
+pub mod ledger;
+mod making;
+pub mod open;
+pub mod questions;
+pub mod whole_day;
+mod rows;
+mod take;

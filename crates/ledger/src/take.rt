@@ -1,0 +1,74 @@
+// The message call.
+ghost use Rattle.std.specs.Prelude.{◌≡◌, List, ◌∷◌, OnErr};
+ghost use Rattle.day_rules.specs.Events.{event_of};
+ghost use Rattle.day_rules.specs.Laws.{SharesBalance, OrdersAddUp, TurnoverAddsUp, NoneBrokenTwice};
+ghost use Rattle.day_rules.specs.Log.{Log, Logged, told};
+ghost use Rattle.day_rules.specs.Rules.{allowed, outcome, after, or_refused, or_same, event_answer, event_after, answer, next};
+
+use crate::ledger::Ledger;
+use crate::making::{order_of, trade_of};
+use day_rules::fault::LedgerFault;
+use day_rules::outcome::Outcome;
+use messages::message::Message;
+use pitch::reader::read;
+use records::execution::Execution;
+use records::order::Order;
+use records::symbol_row::SymbolRow;
+use store::store::Store;
+
+impl<O: Store<Order>, E: Store<Execution>, S: Store<SymbolRow>> Ledger<O, E, S> {
+    // Takes a line, any bytes: what it did to the book, or why it is refused. A refusal changes nothing.
+    pub fn put(&mut self, line: &[u8]) -> Result<Outcome, LedgerFault>
+        ensures says { result ≡ answer line.now self.old }
+        ensures leaves { self.new ≡ next line.now self.old }
+        ensures refused { OnErr result (self.new ≡ self.old) }
+        // Whatever log led to the day before, with this line it leads to the day after.
+        ensures logged { (log : Log) → Logged log self.old → Logged (told line.now result ∷ log) self.new }
+        ensures shares_balance { (log : Log) → Logged log self.old → SharesBalance (told line.now result ∷ log) self.new }
+        ensures orders_add_up { (log : Log) → Logged log self.old → OrdersAddUp (told line.now result ∷ log) self.new }
+        ensures turnover_adds_up { (log : Log) → Logged log self.old → TurnoverAddsUp (told line.now result ∷ log) self.new }
+        ensures none_broken_twice { (log : Log) → Logged log self.old → NoneBrokenTwice (told line.now result ∷ log) }
+    {
+        self.take_line(line)
+    }
+
+    #[tactic(auto, unfolding(day_rules::specs::Rules::answer, day_rules::specs::Rules::next))]
+    fn take_line(&mut self, line: &[u8]) -> Result<Outcome, LedgerFault>
+        ensures says { result ≡ answer line.now self.old }
+        ensures leaves { self.new ≡ next line.now self.old }
+    {
+        let message = read(line)?;
+        self.take_message(&message)
+    }
+
+    // The day limit comes first, and accepted messages are counted.
+    fn take_message(&mut self, message: &Message) -> Result<Outcome, LedgerFault>
+        ensures says { result ≡ event_answer (event_of message.now) self.old }
+        ensures leaves { self.new ≡ event_after (event_of message.now) self.old }
+    {
+        if self.accepted >= self.day_limit {
+            return Err(LedgerFault::Closed);
+        }
+        let accepted = self.accepted + 1;
+        let outcome = self.apply(message)?;
+        self.accepted = accepted;
+        Ok(outcome)
+    }
+
+    // The short and the long form of a message do the same.
+    fn apply(&mut self, message: &Message) -> Result<Outcome, LedgerFault>
+        ensures says { result ≡ or_refused (allowed (event_of message.now) self.old) (outcome (event_of message.now) self.old) }
+        ensures leaves { self.new ≡ or_same (allowed (event_of message.now) self.old) (after (event_of message.now) self.old) self.old }
+    {
+        match message {
+            Message::SymbolClear(clear) => self.clear(clear.symbol),
+            Message::AddShort(add) => self.add(order_of(add)),
+            Message::AddLong(attributed) => self.add(order_of(&attributed.add)),
+            Message::OrderExecuted(executed) => self.execute(executed),
+            Message::OrderCancel(cancel) => self.cancel(cancel),
+            Message::TradeShort(trade) => self.trade(trade_of(trade)),
+            Message::TradeLong(trade) => self.trade(trade_of(trade)),
+            Message::TradeBreak(broken) => self.break_execution(broken.execution),
+        }
+    }
+}

@@ -1,0 +1,43 @@
+// Many lines in one call, and a whole day.
+ghost use Rattle.std.specs.Prelude.{◌≡◌, map};
+ghost use Rattle.day_rules.specs.Laws.{LogLaws};
+ghost use Rattle.day_rules.specs.Log.{Log, Logged};
+ghost use Rattle.ledger.specs.Runs.{answers_on, day_on, log_on, log_of};
+
+use crate::ledger::Ledger;
+use day_rules::fault::LedgerFault;
+use day_rules::outcome::Outcome;
+use records::execution::Execution;
+use records::order::Order;
+use records::symbol_row::SymbolRow;
+use store::store::Store;
+
+impl<O: Store<Order>, E: Store<Execution>, S: Store<SymbolRow>> Ledger<O, E, S> {
+    // Takes the lines one after the other, as many as there is room for answers; each answer goes to the place of its line.
+    pub fn put_all(&mut self, lines: &[&[u8]], answers: &mut [Result<Outcome, LedgerFault>])
+        ensures answers { answers.new ≡ answers_on self.old (map (λ line. line.now) lines.now) answers.old }
+        ensures leaves { self.new ≡ day_on self.old (map (λ line. line.now) lines.now) answers.old }
+        ensures logged { (log : Log) → Logged log self.old → Logged (log_on log (map (λ line. line.now) lines.now) answers.new) self.new }
+    {
+        let most = lines.len().min(answers.len());
+        for (place, answer) in answers[..most].iter_mut().enumerate() {
+            *answer = self.put(lines[place]);
+        }
+    }
+}
+
+// Keeps a day: opens a ledger over three stores, whatever they hold, and puts the lines to it.
+pub fn keep_day<O: Store<Order>, E: Store<Execution>, S: Store<SymbolRow>>(
+    stores: (O, E, S),
+    day_limit: u64,
+    lines: &[&[u8]],
+    answers: &mut [Result<Outcome, LedgerFault>],
+) -> Ledger<O, E, S>
+    ensures logged { Logged (log_of (map (λ line. line.now) lines.now) answers.new) result }
+    ensures laws { LogLaws (log_of (map (λ line. line.now) lines.now) answers.new) result }
+{
+    let (orders, executions, symbols) = stores;
+    let mut ledger = Ledger::open(orders, executions, symbols, day_limit);
+    ledger.put_all(lines, answers);
+    ledger
+}
