@@ -30,9 +30,9 @@ pub record Parts (v : Value) (n : ℕ) : Type 0 where
   pub lower : v.low ≡ low_of n
 
 -- the value of a number, the greatest value where the number passes it
-unfoldable pub valued : ℕ → Value
+abbrev pub valued : ℕ → Value
 valued n = record { high = high_of (stopped n); low = low_of (stopped n); small = omega arith; fits = omega arith }
 
 -- the sum of two values
-unfoldable pub joined : Value → Value → Value
+abbrev pub joined : Value → Value → Value
 joined v w = valued (worth v + worth w)

@@ -4,7 +4,7 @@ use Rattle.std.proofs.Common.{arith}
 use mathlib.Core.HLevel.{is_prop→PathP}
 use Rattle.std.proofs.Math.Bridge.{le_prop}
 use Rattle.records.specs.declared.value.Value.{Value}
-use Rattle.records.specs.Values.{worth, stopped, Parts, valued, joined}
+use Rattle.records.specs.Values.{worth, stopped, valued, joined}
 
 -- two proofs of a bound are one, so the parts are all that a value holds
 pub same_parts : (v w : Value) → v.high ≡ w.high → v.low ≡ w.low → v ≡ w
@@ -20,20 +20,10 @@ pub same-worth : (v w : Value) → worth v ≡ worth w → v ≡ w
 same-worth v w e = same_parts v w (omega arith) (omega arith)
 
 pub worth-valued : (n : ℕ) → worth (valued n) ≡ stopped n
-unfolding valued
 worth-valued n = omega arith
 
 pub worth-joined : (v w : Value) → worth (joined v w) ≡ stopped (worth v + worth w)
-unfolding joined
 worth-joined v w = worth-valued (worth v + worth w)
-
--- what `of_parts` and `zero` answer
-pub is_valued : (r : Value) (n : ℕ) → Parts r (stopped n) → r ≡ valued n
-is_valued r n e = let w = e.whole in same-worth r (valued n) (omega (arith, worth-valued n))
-
--- what `sum` answers
-pub is_joined : (r v w : Value) → Parts r (stopped (worth v + worth w)) → r ≡ joined v w
-is_joined r v w e = let s = e.whole in same-worth r (joined v w) (omega (arith, worth-joined v w))
 
 -- a part of a sum may be stopped before the rest is added
 pub joined-valued : (m n : ℕ) → joined (valued m) (valued n) ≡ valued (m + n)

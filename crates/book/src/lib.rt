@@ -1,0 +1,9 @@
+// What rests and what has traded, told by tallies: the depth of a symbol's side and its best price, and the turnover of all symbols.
+#![tactic(auto)]
+
+pub mod best;
+pub mod book;
+pub mod depth;
+mod picks;
+mod tallies;
+pub mod turnover;
