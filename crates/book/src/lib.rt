@@ -4,6 +4,8 @@
 pub mod best;
 pub mod book;
 pub mod depth;
+mod measures;
 mod picks;
+pub mod queries;
 mod tallies;
 pub mod turnover;
