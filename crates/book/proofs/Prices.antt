@@ -1,9 +1,8 @@
 -- The best price of some orders is one of theirs, and none is better.
-use Rattle.std.proofs.Common.{◌≡◌, ℕ, ◌≤◌, max, min, List, [], ◌∷◌, map, Some, None, Option, inl, inr, refl, sym, subst, arith, ⊎_elim, ◌⊎◌}
+use Rattle.std.proofs.Common.{◌≡◌, ℕ, List, [], ◌∷◌, map, Some, None, Option, inl, inr, refl, sym, subst, arith, ⊎_elim, ◌⊎◌}
 use Rattle.std.proofs.lemmas.Bool.{cases_lt}
 use Rattle.messages.specs.declared.code.Side.{Side}
 use Rattle.messages.specs.declared.code.Side.TheVariants.{Buy, Sell}
-use Rattle.store.specs.Lists.{Each}
 use Rattle.store.proofs.Each.{each-so}
 use Rattle.records.specs.declared.order.Order.{Order}
 use Rattle.book.specs.Books.{better, better_of, best_of, Among, NoWorse, IsBest}
@@ -28,9 +27,10 @@ no-worse-same Sell p = omega arith
 -- one price more
 one-more : (side : Side) (p : ℕ) (ps : List ℕ) (b : Option ℕ) → IsBest side ps b → IsBest side (p ∷ ps) (better_of side (Some p) b)
 one-more side p ps None h = (inl refl, (no-worse-same side p, rw h tt))
-one-more side p ps (Some q) h =
-    (⊎_elim (λ e. inl e) (λ e. inr (subst (λ z. Among z ps) (sym e) h.0)) (better-one side p q),
-    (no-worse-first side p q, each-so (NoWorse side q) (NoWorse side (better side p q)) (λ r. no-worse-second side p q r) ps h.1))
+one-more side p ps (Some q) h = (
+  ⊎_elim (λ e. inl e) (λ e. inr (subst (λ z. Among z ps) (sym e) h.0)) (better-one side p q),
+  (no-worse-first side p q, each-so (NoWorse side q) (NoWorse side (better side p q)) (λ r. no-worse-second side p q r) ps h.1),
+)
 
 is-best : (side : Side) (os : List Order) → IsBest side (map (λ o. o.price) os) (best_of side os)
 is-best side [] = refl

@@ -1,10 +1,10 @@
 -- What the tallies come to over a list.
-use Rattle.std.proofs.Common.{◌≡◌, ℕ, suc, ◌+◌, min, Bool, true, false, cond, List, [], ◌∷◌, map, length, Some, None, refl, ap, ◌∙◌, arith, ⊎_elim}
+use Rattle.std.proofs.Common.{◌≡◌, ℕ, suc, ◌+◌, Bool, cond, List, [], ◌∷◌, map, length, Some, None, refl, ap, ◌∙◌, arith, ⊎_elim}
 use Rattle.std.proofs.lemmas.Bool.{cases_Bool}
 use Rattle.messages.specs.declared.code.Side.{Side}
 use Rattle.tally.proofs.Pairing.{both-joined}
 use Rattle.tally.specs.declared.both.Both.{Both}
-use Rattle.tally.specs.Joining.{joined_all, JoinedInEveryOrder}
+use Rattle.tally.specs.Joining.{joined_all}
 use Rattle.tally.specs.Pairs.{pairwise}
 use Rattle.tally.specs.Totals.{total_of, together}
 use Rattle.tally.specs.TotalsLemmas.{same_total, neutral}
@@ -18,8 +18,7 @@ use Rattle.records.specs.ValuesLemmas.{same_parts, joined-valued}
 use Rattle.book.specs.declared.best.Best.{Best}
 use Rattle.book.specs.declared.depth.Depth.{Depth}
 use Rattle.book.specs.declared.turnover.Turnover.{Turnover}
-use Rattle.book.specs.declared.book.Book.{Book}
-use Rattle.book.specs.Books.{sum, better_of, best_of, depth_of, turnover_of, Among, NoWorse, IsBest}
+use Rattle.book.specs.Books.{sum, better_of, best_of, depth_of, turnover_of}
 
 totals-stop : (m n : ℕ) → together (total_of m) (total_of n) ≡ total_of (m + n)
 totals-stop m n = same_total _ _ (omega arith)

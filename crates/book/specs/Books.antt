@@ -1,5 +1,5 @@
 -- What rests and what has traded, said of lists of records.
-use Rattle.std.specs.Prelude.{◌≡◌, ℕ, ◌+◌, ◌≤◌, max, min, Bool, true, false, cond, List, [], ◌∷◌, map, length, Some, None, Option, ◌==◌, ◌⊎◌}
+use Rattle.std.specs.Prelude.{◌≡◌, ℕ, ◌+◌, ◌≤◌, max, min, Bool, true, false, cond, List, [], ◌∷◌, length, Some, None, Option, ◌==◌, ◌⊎◌}
 use Rattle.messages.specs.declared.code.Side.{Side}
 use Rattle.messages.specs.declared.code.Side.TheVariants.{Buy, Sell}
 use Rattle.tally.specs.Totals.{total_of}

@@ -1,5 +1,5 @@
 -- The better of prices may be taken in any order.
-use Rattle.std.specs.Prelude.{◌≡◌, ℕ, Some, None, Option, max, min}
+use Rattle.std.specs.Prelude.{◌≡◌, ℕ, Some, None, Option}
 use Rattle.std.proofs.Common.{ap, refl, arith}
 use Rattle.messages.specs.declared.code.Side.{Side}
 use Rattle.messages.specs.declared.code.Side.TheVariants.{Buy, Sell}

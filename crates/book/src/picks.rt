@@ -30,6 +30,9 @@ impl Pick<Order> for RestsOn {
     ghost picked = { λ pick o. rests_on pick.symbol pick.side o };
 
     fn picks(&self, item: Order) -> bool {
-        item.symbol == self.symbol && item.side == self.side
+        let of = OfSymbol {
+            symbol: self.symbol,
+        };
+        of.picks(item) && item.side == self.side
     }
 }

@@ -30,6 +30,7 @@ pub fn book<S: Store<Order>>(orders: &S, symbol: u64, side: Side) -> Book
     }
 }
 
+// On one side.
 fn book_on<S: Store<Order>, const BUYS: bool>(orders: &S, symbol: u64) -> Book
     ensures says { S.Store.ready orders.now → result ≡ book_of symbol (side_of BUYS) (S.Store.model orders.now).rows }
     ensures best { S.Store.ready orders.now → IsBest (side_of BUYS) (map (λ o. o.price) (those (rests_on symbol (side_of BUYS)) (S.Store.model orders.now).rows)) result.best }
@@ -51,6 +52,7 @@ fn book_on<S: Store<Order>, const BUYS: bool>(orders: &S, symbol: u64) -> Book
     }
 }
 
+// The side.
 fn side<const BUYS: bool>() -> Side
     ensures { result ≡ side_of BUYS }
 {
@@ -70,6 +72,7 @@ pub fn clear<S: Store<Order>>(orders: &mut S, symbol: u64) -> Depth
     removed(orders, symbol)
 }
 
+// The same, by going through the store.
 fn removed<S: Store<Order>>(orders: &mut S, symbol: u64) -> Depth
     ensures says { S.Store.ready orders.old → result ≡ depth_of (those (is_of symbol) (S.Store.model orders.old).rows) }
     ensures leaves { S.Store.ready orders.old → S.Store.model orders.new ≡ sweeping (is_of symbol) (S.Store.model orders.old) }
@@ -85,6 +88,7 @@ pub fn market<S: Store<SymbolRow>>(rows: &S) -> Turnover
     traded(rows)
 }
 
+// The same, by the walk.
 fn traded<S: Store<SymbolRow>>(rows: &S) -> Turnover
     ensures { S.Store.ready rows.now → result ≡ turnover_of (S.Store.model rows.now).rows }
 {
