@@ -6,9 +6,9 @@ use Rattle.records.specs.declared.execution.Execution.{Execution}
 use Rattle.records.specs.declared.symbol_row.SymbolRow.{SymbolRow}
 use Rattle.records.specs.Keys.{symbol_key}
 use Rattle.store.specs.Lists.{first_from}
-use Rattle.book.specs.declared.types.Book.{Book}
-use Rattle.book.specs.declared.types.Turnover.{Turnover}
-use Rattle.book.specs.Books.{book_of}
+use Rattle.book.specs.declared.book.Book.{Book}
+use Rattle.book.specs.declared.turnover.Turnover.{Turnover}
+use Rattle.book.specs.Books.{book_of, turnover_of}
 use Rattle.day_rules.specs.Days.{Day}
 use Rattle.day_rules.specs.Rules.{order_in, execution_in, row_in}
 
@@ -23,6 +23,8 @@ pub data Question : Type 0 where
   row_from : ℕ → Question
   -- what rests of a symbol on a side
   book : ℕ → Side → Question
+  -- what has traded of all symbols
+  market : Question
   -- how many messages were accepted
   accepted : Question
 
@@ -34,12 +36,17 @@ row_from_in symbol d = first_from symbol_key symbol d.symbols.rows
 abbrev pub book_in : ℕ → Side → Day → Book
 book_in symbol side d = book_of symbol side d.orders.rows
 
+-- what has traded of all symbols together
+abbrev pub market_in : Day → Turnover
+market_in d = turnover_of d.symbols.rows
+
 abbrev pub ReplyTo : Question → Type 0
 ReplyTo (order id) = Option Order
 ReplyTo (execution id) = Option Execution
 ReplyTo (row symbol) = Option SymbolRow
 ReplyTo (row_from symbol) = Option SymbolRow
 ReplyTo (book symbol side) = Book
+ReplyTo market = Turnover
 ReplyTo accepted = ℕ
 
 abbrev pub reply : (q : Question) → Day → ReplyTo q
@@ -48,4 +55,5 @@ reply (execution id) d = execution_in id d
 reply (row symbol) d = row_in symbol d
 reply (row_from symbol) d = row_from_in symbol d
 reply (book symbol side) d = book_in symbol side d
+reply market d = market_in d
 reply accepted d = d.accepted

@@ -1,17 +1,14 @@
 -- What stands in front of a store: sixteen places with an order or none each, an order at its key's remainder.
-use Rattle.std.specs.Prelude.{◌≡◌, ℕ, ◌%◌, ◌^◌, Bool, cond, List, map, replicate, is_some, is_ok, Some, None, Option, Result, ◌==◌, slice_index_or, slice_set}
+use Rattle.std.specs.Prelude.{◌≡◌, ℕ, ◌%◌, Bool, cond, List, map, replicate, is_some, is_ok, Some, None, Option, Result, ◌==◌, slice_index_or, slice_set}
 use Rattle.records.specs.declared.order.Order.{Order}
+use Rattle.records.specs.Keys.{order_key}
 use Rattle.store.specs.Lists.{lookup}
 use Rattle.store.specs.Models.{Model}
-
--- the key that an order is kept by
-abbrev pub key_of : Order → ℕ
-key_of o = o.id % 2 ^ 64
 
 -- what a place holds, if its key is k
 abbrev pub matching : ℕ → Option Order → Option Order
 matching k None = None
-matching k (Some o) = cond (key_of o == k) (Some o) None
+matching k (Some o) = cond (order_key o == k) (Some o) None
 
 -- the order that stands in front under the key k
 abbrev pub standing : List (Option Order) → ℕ → Option Order
@@ -19,7 +16,7 @@ standing places k = matching k (slice_index_or places (k % 16) None)
 
 -- an order put at its place, whatever stood there
 abbrev pub fronted : Order → List (Option Order) → List (Option Order)
-fronted o places = slice_set places (key_of o % 16) (Some o)
+fronted o places = slice_set places (order_key o % 16) (Some o)
 
 -- the same, if the store below took the order
 abbrev pub taken : {E : Type 0} → Result (Unit {0}) E → Order → List (Option Order) → List (Option Order)
@@ -44,7 +41,7 @@ swept p places = map (swept_place p) places
 
 -- what stands in front is what the list of all orders has under the same key
 unfoldable pub Agrees : List (Option Order) → List Order → Type 0
-Agrees places rows = (k : ℕ) (o : Order) → standing places k ≡ Some o → lookup key_of k rows ≡ Some o
+Agrees places rows = (k : ℕ) (o : Order) → standing places k ≡ Some o → lookup order_key k rows ≡ Some o
 
 -- what agrees with the store below before a change of it agrees after the change
 abbrev pub Follows : (Model Order → Model Order → Type 0) → List (Option Order) → List (Option Order) → Type 0
@@ -53,4 +50,4 @@ Follows change before after = (m n : Model Order) → change m n → Agrees befo
 -- what is answered for the key k, if anything, is what the list has under it
 abbrev pub Backed : List Order → ℕ → Option Order → Type 0
 Backed rows k None = Unit {0}
-Backed rows k (Some o) = Some o ≡ lookup key_of k rows
+Backed rows k (Some o) = Some o ≡ lookup order_key k rows

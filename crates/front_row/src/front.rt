@@ -3,8 +3,9 @@
 // The front follows the store below: what stands in front is what the store has, and goes on to be so if the front is changed after the store.
 ghost use Rattle.std.specs.Prelude.{◌≡◌, ◌%◌, List, Ok};
 ghost use Rattle.records.specs.declared.order.Order.{Order};
+ghost use Rattle.records.specs.Keys.{order_key};
 ghost use Rattle.store.specs.Models.{insert_says, inserted, replace_says, replacing, removing, sweeping};
-ghost use Rattle.front_row.specs.Fronts.{key_of, standing, fronted, unfronted, cleared, swept_place, swept, Agrees, Follows, Backed};
+ghost use Rattle.front_row.specs.Fronts.{standing, fronted, unfronted, cleared, swept_place, swept, Agrees, Follows, Backed};
 
 use records::order::Order;
 use store::pick::Pick;
@@ -39,8 +40,8 @@ impl Front {
     // Puts an order that the store has taken at its place, whatever stands there.
     pub fn put(&mut self, order: Order)
         ensures places { self.new.places ≡ fronted order self.old.places }
-        ensures inserted { Follows (λ m n. (Ok tt ≡ insert_says key_of order m) × (n ≡ inserted key_of order m)) self.old.places self.new.places }
-        ensures replaced { Follows (λ m n. (Ok tt ≡ replace_says key_of order m) × (n ≡ replacing key_of order m)) self.old.places self.new.places }
+        ensures inserted { Follows (λ m n. (Ok tt ≡ insert_says order_key order m) × (n ≡ inserted order_key order m)) self.old.places self.new.places }
+        ensures replaced { Follows (λ m n. (Ok tt ≡ replace_says order_key order m) × (n ≡ replacing order_key order m)) self.old.places self.new.places }
     {
         self.places[place_of(order.key())] = Some(order);
     }
@@ -48,7 +49,7 @@ impl Front {
     // Leaves the place of a key empty, if it is this key that stands there.
     pub fn remove(&mut self, key: u64)
         ensures places { self.new.places ≡ unfronted key self.old.places }
-        ensures agrees { Follows (λ m n. n ≡ removing key_of key m) self.old.places self.new.places }
+        ensures agrees { Follows (λ m n. n ≡ removing order_key key m) self.old.places self.new.places }
     {
         if self.get(key).is_some() {
             self.places[place_of(key)] = None;

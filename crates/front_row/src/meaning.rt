@@ -1,10 +1,11 @@
 // The front row is a store: it means what the store below means.
 ghost use Rattle.std.specs.Prelude.{◌≡◌, map, Some};
 ghost use Rattle.records.specs.declared.order.Order.{Order};
+ghost use Rattle.records.specs.Keys.{order_key};
 ghost use Rattle.tally.specs.Joining.{joined_all};
 ghost use Rattle.store.specs.Lists.{lookup, those};
 ghost use Rattle.store.specs.Models.{insert_says, inserted, replace_says, replacing, removing, sweeping, emptied};
-ghost use Rattle.front_row.specs.Fronts.{key_of, standing, taken, unfronted, cleared, swept};
+ghost use Rattle.front_row.specs.Fronts.{standing, taken, unfronted, cleared, swept};
 ghost use Rattle.front_row.specs.Rows.{model_of, ahead_of, Ready};
 
 use crate::front_row::FrontRow;
@@ -32,7 +33,7 @@ impl<S: Store<Order>> Store<Order> for FrontRow<S> {
     }
 
     fn find(&self, key: u64) -> Option<Order>
-        ensures says { Ready S.Store self.now → result ≡ lookup key_of key (model_of S.Store self.now).rows }
+        ensures says { Ready S.Store self.now → result ≡ lookup order_key key (model_of S.Store self.now).rows }
         ensures front { (o : Order) → Some o ≡ standing self.now.front.places key → result ≡ Some o }
     {
         self.front.get(key).or_else(|| self.below.find(key))
@@ -47,8 +48,8 @@ impl<S: Store<Order>> Store<Order> for FrontRow<S> {
     }
 
     fn insert(&mut self, item: Order) -> Result<(), InsertRefusal>
-        ensures says { Ready S.Store self.old → result ≡ insert_says key_of item (model_of S.Store self.old) }
-        ensures leaves { Ready S.Store self.old → model_of S.Store self.new ≡ inserted key_of item (model_of S.Store self.old) }
+        ensures says { Ready S.Store self.old → result ≡ insert_says order_key item (model_of S.Store self.old) }
+        ensures leaves { Ready S.Store self.old → model_of S.Store self.new ≡ inserted order_key item (model_of S.Store self.old) }
         ensures still { Ready S.Store self.old → Ready S.Store self.new }
         ensures front { self.new.front.places ≡ taken result item self.old.front.places }
     {
@@ -60,8 +61,8 @@ impl<S: Store<Order>> Store<Order> for FrontRow<S> {
     #[tactic(auto, using(crate::proofs::Agreement::unreplaced))]
     // As `insert`: the trait states each with its own refusal, so one text for both would be no shorter.
     fn replace(&mut self, item: Order) -> Result<(), ReplaceRefusal>
-        ensures says { Ready S.Store self.old → result ≡ replace_says key_of item (model_of S.Store self.old) }
-        ensures leaves { Ready S.Store self.old → model_of S.Store self.new ≡ replacing key_of item (model_of S.Store self.old) }
+        ensures says { Ready S.Store self.old → result ≡ replace_says order_key item (model_of S.Store self.old) }
+        ensures leaves { Ready S.Store self.old → model_of S.Store self.new ≡ replacing order_key item (model_of S.Store self.old) }
         ensures still { Ready S.Store self.old → Ready S.Store self.new }
         ensures front { self.new.front.places ≡ taken result item self.old.front.places }
     {
@@ -71,8 +72,8 @@ impl<S: Store<Order>> Store<Order> for FrontRow<S> {
     }
 
     fn remove(&mut self, key: u64) -> Option<Order>
-        ensures says { Ready S.Store self.old → result ≡ lookup key_of key (model_of S.Store self.old).rows }
-        ensures leaves { Ready S.Store self.old → model_of S.Store self.new ≡ removing key_of key (model_of S.Store self.old) }
+        ensures says { Ready S.Store self.old → result ≡ lookup order_key key (model_of S.Store self.old).rows }
+        ensures leaves { Ready S.Store self.old → model_of S.Store self.new ≡ removing order_key key (model_of S.Store self.old) }
         ensures still { Ready S.Store self.old → Ready S.Store self.new }
         ensures front { self.new.front.places ≡ unfronted key self.old.front.places }
     {

@@ -1,3 +1,4 @@
 pub mod Keys
 pub mod KeysLemmas
 pub mod Values
+pub mod ValuesLemmas

@@ -1,5 +1,6 @@
 -- What a value is worth, and how a number is parted into the two that a value holds.
 use Rattle.std.specs.Prelude.{◌≡◌, ℕ, ◌+◌, ◌-◌, ◌*◌, ◌/◌, ◌%◌, ◌^◌, min}
+use Rattle.std.proofs.Common.{arith}
 use Rattle.records.specs.declared.value.Value.{Value}
 
 -- the ten-thousandths of a dollar that a value stands for
@@ -27,3 +28,11 @@ pub record Parts (v : Value) (n : ℕ) : Type 0 where
   pub whole : worth v ≡ n
   pub upper : v.high ≡ high_of n
   pub lower : v.low ≡ low_of n
+
+-- the value of a number, the greatest value where the number passes it
+abbrev pub valued : ℕ → Value
+valued n = record { high = high_of (stopped n); low = low_of (stopped n); small = omega arith; fits = omega arith }
+
+-- the sum of two values
+abbrev pub joined : Value → Value → Value
+joined v w = valued (worth v + worth w)

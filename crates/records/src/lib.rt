@@ -4,5 +4,6 @@
 mod arithmetic;
 pub mod execution;
 pub mod order;
+mod sum;
 pub mod symbol_row;
 pub mod value;

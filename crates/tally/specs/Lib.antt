@@ -1,3 +1,4 @@
 pub mod Joining
+pub mod Pairs
 pub mod Totals
 pub mod TotalsLemmas

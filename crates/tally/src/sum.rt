@@ -1,4 +1,5 @@
 // Sums that stop at 2^64 - 1 are a tally, and any record can be counted by one.
+ghost use Rattle.std.specs.Prelude.{◌≡◌};
 ghost use Rattle.tally.specs.Totals.{total_of, together};
 ghost use Rattle.tally.specs.TotalsLemmas as Totals;
 
@@ -25,6 +26,14 @@ impl Tally for Total {
         Total {
             number: self.number.saturating_add(other.number),
         }
+    }
+}
+
+impl Total {
+    pub fn of(number: u64) -> Total
+        ensures { result ≡ total_of number }
+    {
+        Total { number }
     }
 }
 

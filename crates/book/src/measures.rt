@@ -1,0 +1,94 @@
+// What orders and rows give.
+ghost use Rattle.std.specs.Prelude.{◌≡◌, cond, Some};
+ghost use Rattle.tally.specs.Totals.{total_of};
+ghost use Rattle.records.specs.Keys.{row_worth};
+ghost use Rattle.records.specs.Values.{valued};
+
+use crate::best::Best;
+use crate::depth::Depth;
+use crate::turnover::Turnover;
+use records::order::Order;
+use records::symbol_row::SymbolRow;
+use records::value::Value;
+use store::pick::Pick;
+use tally::measure::Measure;
+use tally::tally::Tally;
+use tally::total::Total;
+
+// The depth of one order: itself, and its shares.
+#[derive(Clone, Copy, Drop)]
+pub(crate) struct DepthOf;
+
+impl Measure<Order> for DepthOf {
+    type Out = Depth;
+
+    ghost given = { λ _ o. record { orders = total_of 1; shares = total_of o.shares } };
+
+    fn of(&self, item: Order) -> Depth {
+        Depth {
+            orders: Total::of(1),
+            shares: Total::of(item.shares),
+        }
+    }
+}
+
+// Its price.
+#[derive(Clone, Copy, Drop)]
+pub(crate) struct PriceOf<const BUYS: bool>;
+
+impl<const BUYS: bool> Measure<Order> for PriceOf<BUYS> {
+    type Out = Best<BUYS>;
+
+    ghost given = { λ _ o. record { price = Some o.price } };
+
+    fn of(&self, item: Order) -> Best<BUYS> {
+        Best {
+            price: Some(item.price),
+        }
+    }
+}
+
+// The turnover of one symbol: its row's volume and value.
+#[derive(Clone, Copy, Drop)]
+pub(crate) struct TurnoverOf;
+
+impl Measure<SymbolRow> for TurnoverOf {
+    type Out = Turnover;
+
+    ghost given = { λ _ r. record { volume = total_of r.volume; value = valued (row_worth r) } };
+
+    fn of(&self, item: SymbolRow) -> Turnover {
+        Turnover {
+            volume: Total::of(item.volume),
+            value: value_of(&item),
+        }
+    }
+}
+
+#[tactic(auto, using(crate::proofs::Sums::is_valued))]
+fn value_of(row: &SymbolRow) -> Value
+    ensures { result ≡ valued (row_worth row.now) }
+{
+    row.value()
+}
+
+// What a measure gives of the records that a test picks; the others give nothing.
+#[derive(Clone, Copy, Drop)]
+pub(crate) struct Where<P, M> {
+    pub pick: P,
+    pub measure: M,
+}
+
+impl<R: Copy, P: Pick<R>, M: Measure<R>> Measure<R> for Where<P, M> {
+    type Out = M::Out;
+
+    ghost given = { λ it r. cond (P.Pick.picked it.pick r) (M.Measure.given it.measure r) M.Out.Tally.none };
+
+    fn of(&self, item: R) -> M::Out {
+        if self.pick.picks(item) {
+            self.measure.of(item)
+        } else {
+            M::Out::empty()
+        }
+    }
+}
