@@ -1,5 +1,6 @@
 -- What a log adds up to.
 use Rattle.std.specs.Prelude.{◌≡◌, ℕ, ◌+◌, ◌≤◌, true, false, Some, None, Option}
+use Rattle.messages.specs.declared.code.Side.{Side}
 use Rattle.messages.specs.declared.code.Side.TheVariants.{Buy, Sell}
 use Rattle.records.specs.declared.order.Order.{Order}
 use Rattle.records.specs.declared.symbol_row.SymbolRow.{SymbolRow}
@@ -15,6 +16,10 @@ use Rattle.day_rules.specs.Words.{History, history, last_add, since_add, clear_a
 -- the shares resting of a symbol: those of its book on both sides
 abbrev pub shares_resting : ℕ → Day → ℕ
 shares_resting symbol d = (book_in symbol Buy d).depth.shares.number + (book_in symbol Sell d).depth.shares.number
+
+abbrev pub other_side : Side → Side
+other_side Buy = Sell
+other_side Sell = Buy
 
 -- the shares left of an order
 abbrev pub shares_of : Option Order → ℕ

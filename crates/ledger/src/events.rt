@@ -5,6 +5,7 @@ ghost use Rattle.day_rules.specs.Rules.{allowed, outcome, after, or_refused, or_
 
 use crate::ledger::Ledger;
 use crate::rows::{new_row, with_execution, without_execution};
+use book::queries::clear;
 use day_rules::fault::LedgerFault;
 use day_rules::outcome::Outcome;
 use messages::record;
@@ -14,12 +15,16 @@ use records::symbol_row::SymbolRow;
 use store::store::Store;
 
 impl<O: Store<Order>, E: Store<Execution>, S: Store<SymbolRow>> Ledger<O, E, S> {
-    // TEMP
-    pub(crate) fn clear(&mut self, symbol: u64) -> Result<Outcome, LedgerFault>
-        ensures says { result ≡ or_refused (allowed (clears symbol) self.old) (outcome (clears symbol) self.old) }
-        ensures leaves { self.new ≡ or_same (allowed (clears symbol) self.old) (after (clears symbol) self.old) self.old }
+    // All orders of a symbol leave the book.
+    pub(crate) fn clear(&mut self, symbol: u64) -> Outcome
+        ensures says { result ≡ outcome (clears symbol) self.old }
+        ensures leaves { self.new ≡ after (clears symbol) self.old }
     {
-        Err(LedgerFault::Closed)
+        let cleared = clear(&mut self.orders, symbol);
+        Outcome {
+            orders: cleared.orders.number,
+            shares: cleared.shares.number,
+        }
     }
 
     // An order comes to rest.

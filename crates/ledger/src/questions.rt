@@ -1,9 +1,19 @@
-// What a ledger is asked. Questions change nothing.
-ghost use Rattle.std.specs.Prelude.{◌≡◌};
+// What a ledger is asked. Questions change nothing; what they answer of shares, volume and value is what the log adds up to.
+ghost use Rattle.std.specs.Prelude.{◌≡◌, ◌+◌, map, ◌∷◌};
+ghost use Rattle.store.specs.Lists.{those};
+ghost use Rattle.book.specs.Books.{rests_on, IsBest};
+ghost use Rattle.day_rules.specs.Laws.{IsBalanced, IsLeft, IsTraded, shares_of, volume_in, value_in, other_side};
+ghost use Rattle.day_rules.specs.Log.{Log, Logged, asked};
+ghost use Rattle.day_rules.specs.Questions as question;
+ghost use Rattle.day_rules.specs.Questions.{row_from_in, book_in, market_in};
 ghost use Rattle.day_rules.specs.Rules.{order_in, execution_in, row_in};
-ghost use Rattle.day_rules.specs.Questions.{row_from_in};
+ghost use Rattle.day_rules.specs.Words.{history};
 
 use crate::ledger::Ledger;
+use book::book::Book;
+use book::queries::{book, market};
+use book::turnover::Turnover;
+use messages::code::Side;
 use records::execution::Execution;
 use records::order::Order;
 use records::symbol_row::SymbolRow;
@@ -12,35 +22,60 @@ use store::store::Store;
 impl<O: Store<Order>, E: Store<Execution>, S: Store<SymbolRow>> Ledger<O, E, S> {
     // The order that rests under an Order ID.
     pub fn order(&self, id: u64) -> Option<Order>
-        ensures { result ≡ order_in id self.now }
+        ensures says { result ≡ order_in id self.now }
+        ensures logged { (log : Log) → Logged log self.now → Logged (asked (question.order id) result ∷ log) self.now }
+        ensures adds_up { (log : Log) → Logged log self.now → IsLeft (history log) id (shares_of result) }
     {
         self.orders.find(id)
     }
 
     // The execution or trade with an Execution ID, broken or not.
     pub fn execution(&self, id: u64) -> Option<Execution>
-        ensures { result ≡ execution_in id self.now }
+        ensures says { result ≡ execution_in id self.now }
+        ensures logged { (log : Log) → Logged log self.now → Logged (asked (question.execution id) result ∷ log) self.now }
     {
         self.executions.find(id)
     }
 
     // What has traded of a symbol.
     pub fn row(&self, symbol: u64) -> Option<SymbolRow>
-        ensures { result ≡ row_in symbol self.now }
+        ensures says { result ≡ row_in symbol self.now }
+        ensures logged { (log : Log) → Logged log self.now → Logged (asked (question.row symbol) result ∷ log) self.now }
+        ensures adds_up { (log : Log) → Logged log self.now → IsTraded (history log) symbol (volume_in result) (value_in result) }
     {
         self.symbols.find(symbol)
     }
 
     // The first row from a symbol's number on.
     pub fn row_from(&self, symbol: u64) -> Option<SymbolRow>
-        ensures { result ≡ row_from_in symbol self.now }
+        ensures says { result ≡ row_from_in symbol self.now }
+        ensures logged { (log : Log) → Logged log self.now → Logged (asked (question.row_from symbol) result ∷ log) self.now }
     {
         self.symbols.from(symbol)
     }
 
+    // What rests of a symbol on a side. With what rests on the other side, its shares are what the log's add up to.
+    pub fn book(&self, symbol: u64, side: Side) -> Book
+        ensures says { result ≡ book_in symbol side self.now }
+        ensures best { IsBest side (map (λ o. o.price) (those (rests_on symbol side) self.now.orders.rows)) result.best }
+        ensures logged { (log : Log) → Logged log self.now → Logged (asked (question.book symbol side) result ∷ log) self.now }
+        ensures balance { (log : Log) → Logged log self.now → IsBalanced (history log) symbol (result.depth.shares.number + (book_in symbol (other_side side) self.now).depth.shares.number) }
+    {
+        book(&self.orders, symbol, side)
+    }
+
+    // What has traded of all symbols together.
+    pub fn market(&self) -> Turnover
+        ensures says { result ≡ market_in self.now }
+        ensures logged { (log : Log) → Logged log self.now → Logged (asked question.market result ∷ log) self.now }
+    {
+        market(&self.symbols)
+    }
+
     // How many messages were accepted.
     pub fn accepted(&self) -> u64
-        ensures { result ≡ self.now.accepted }
+        ensures says { result ≡ self.now.accepted }
+        ensures logged { (log : Log) → Logged log self.now → Logged (asked question.accepted result ∷ log) self.now }
     {
         self.accepted
     }

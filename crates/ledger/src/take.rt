@@ -61,7 +61,7 @@ impl<O: Store<Order>, E: Store<Execution>, S: Store<SymbolRow>> Ledger<O, E, S> 
         ensures leaves { self.new ≡ or_same (allowed (event_of message.now) self.old) (after (event_of message.now) self.old) self.old }
     {
         match message {
-            Message::SymbolClear(clear) => self.clear(clear.symbol),
+            Message::SymbolClear(clear) => Ok(self.clear(clear.symbol)),
             Message::AddShort(add) => self.add(order_of(add)),
             Message::AddLong(attributed) => self.add(order_of(&attributed.add)),
             Message::OrderExecuted(executed) => self.execute(executed),
