@@ -30,7 +30,7 @@ pub fn book<S: Store<Order>>(orders: &S, symbol: u64, side: Side) -> Book
     }
 }
 
-// On one side.
+// The same, for the side that a constant names, in one walk.
 fn book_on<S: Store<Order>, const BUYS: bool>(orders: &S, symbol: u64) -> Book
     ensures says { S.Store.ready orders.now → result ≡ book_of symbol (side_of BUYS) (S.Store.model orders.now).rows }
     ensures best { S.Store.ready orders.now → IsBest (side_of BUYS) (map (λ o. o.price) (those (rests_on symbol (side_of BUYS)) (S.Store.model orders.now).rows)) result.best }
@@ -52,7 +52,7 @@ fn book_on<S: Store<Order>, const BUYS: bool>(orders: &S, symbol: u64) -> Book
     }
 }
 
-// The side.
+// The side that the best price is of.
 fn side<const BUYS: bool>() -> Side
     ensures { result ≡ side_of BUYS }
 {
