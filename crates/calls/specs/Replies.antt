@@ -9,7 +9,7 @@ use Rattle.store.specs.declared.refusal.ReplaceRefusal.{ReplaceRefusal}
 use Rattle.store.specs.declared.refusal.ReplaceRefusal.TheVariants as replace_refusal
 use Rattle.store.specs.Lists.{lookup, first_from}
 use Rattle.store.specs.Models.{Model, insert_says, inserted, replace_says, replacing, removing, emptied}
-use Rattle.front_row.specs.Fronts.{key_of}
+use Rattle.records.specs.Keys.{order_key}
 use Rattle.calls.specs.declared.call.Call.{Call}
 use Rattle.calls.specs.declared.call.Call.TheVariants.{Insert, Find, From, Replace, Remove, Stands, Count, Limit, Empty}
 use Rattle.calls.specs.declared.reply.Reply.{Reply}
@@ -40,11 +40,11 @@ front_reply None = NoFront
 
 -- what is answered, where the front says of a key whether it stands
 abbrev pub reply_of : (ℕ → Option Bool) → Call → Model Order → Reply
-reply_of front (Insert k n) m = insert_reply (insert_says key_of (order_of k n) m)
-reply_of front (Find k) m = found_reply (lookup key_of k m.rows)
-reply_of front (From k) m = found_reply (first_from key_of k m.rows)
-reply_of front (Replace k n) m = replace_reply (replace_says key_of (order_of k n) m)
-reply_of front (Remove k) m = found_reply (lookup key_of k m.rows)
+reply_of front (Insert k n) m = insert_reply (insert_says order_key (order_of k n) m)
+reply_of front (Find k) m = found_reply (lookup order_key k m.rows)
+reply_of front (From k) m = found_reply (first_from order_key k m.rows)
+reply_of front (Replace k n) m = replace_reply (replace_says order_key (order_of k n) m)
+reply_of front (Remove k) m = found_reply (lookup order_key k m.rows)
 reply_of front (Stands k) m = front_reply (front k)
 reply_of front Count m = Counted (length m.rows)
 reply_of front Limit m = Limited m.limit
@@ -52,11 +52,11 @@ reply_of front Empty m = Done
 
 -- what the store is afterwards: questions leave it as it was
 abbrev pub model_after : Call → Model Order → Model Order
-model_after (Insert k n) m = inserted key_of (order_of k n) m
+model_after (Insert k n) m = inserted order_key (order_of k n) m
 model_after (Find k) m = m
 model_after (From k) m = m
-model_after (Replace k n) m = replacing key_of (order_of k n) m
-model_after (Remove k) m = removing key_of k m
+model_after (Replace k n) m = replacing order_key (order_of k n) m
+model_after (Remove k) m = removing order_key k m
 model_after (Stands k) m = m
 model_after Count m = m
 model_after Limit m = m
