@@ -11,13 +11,26 @@ use Rattle.day_rules.specs.Events.{Event, clears, adds, executes, cancels, trade
 use Rattle.day_rules.specs.Laws.{IsLeft, volume_in, value_in}
 use Rattle.day_rules.specs.Words.{History, Accepted, last_add, since_add, clear_among, taken_off, shares_added, shares_taken, shares_cleared, fills, times_broken}
 
--- what a line can say: an ID and a symbol of 64 bits, six digits of shares, ten of a price
+-- as a line can give it: an ID and a symbol of 64 bits, ten digits of a price, six of shares
+pub record NarrowOrder (o : Order) : Type 0 where
+  pub id : o.id < 2 ^ 64
+  pub symbol : o.symbol < 2 ^ 64
+  pub price : o.price ≤ 9999999999
+  pub shares : o.shares ≤ 999999
+
+pub record NarrowFill (e : Execution) : Type 0 where
+  pub id : e.id < 2 ^ 64
+  pub symbol : e.symbol < 2 ^ 64
+  pub price : e.price ≤ 9999999999
+  pub shares : e.shares ≤ 999999
+
+-- what a line can say
 abbrev pub EventFits : Event → Type 0
 EventFits (clears s) = s < 2 ^ 64
-EventFits (adds o) = (o.id < 2 ^ 64) × (o.symbol < 2 ^ 64) × (o.shares ≤ 999999)
+EventFits (adds o) = NarrowOrder o
 EventFits (executes i n x) = (i < 2 ^ 64) × (n ≤ 999999) × (x < 2 ^ 64)
 EventFits (cancels i n) = i < 2 ^ 64
-EventFits (trades e) = (e.id < 2 ^ 64) × (e.symbol < 2 ^ 64) × (e.shares ≤ 999999) × (e.price ≤ 9999999999) × (e.broken ≡ false)
+EventFits (trades e) = NarrowFill e × (e.broken ≡ false)
 EventFits (breaks x) = x < 2 ^ 64
 
 -- Orders.
@@ -42,7 +55,8 @@ shares_if s o = cond (eqb o.symbol s) o.shares 0
 
 pub record OrdersStand (h : History) (os : List Order) : Type 0 where
   pub rising : Rising order_key os
-  pub narrow : Each (λ o. (o.id < 2 ^ 64) × (o.price ≤ 9999999999)) os
+  pub narrow : Each NarrowOrder os
+  pub count : length os ≤ length h
   pub each : (id : ℕ) → OrderStands h id (lookup order_key id os)
   pub balance : (s : ℕ) → shares_added s h ≡ sum (shares_if s) os + shares_taken s h + shares_cleared s h
 
@@ -64,7 +78,8 @@ unless_marked w e = cond e.broken 0 (w e)
 -- the unbroken ones stored are those of the log: whatever is counted of each, it comes to the same
 pub record FillsStand (h : History) (es : List Execution) : Type 0 where
   pub rising : Rising execution_key es
-  pub narrow : Each (λ e. e.id < 2 ^ 64) es
+  pub narrow : Each NarrowFill es
+  pub count : length es ≤ length h
   pub marks : (x : ℕ) → times_broken x h ≡ broken_times (lookup execution_key x es)
   pub same : (w : Execution → ℕ) → sum (unless_broken w h) (fills h) ≡ sum (unless_marked w) es
 

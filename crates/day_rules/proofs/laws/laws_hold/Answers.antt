@@ -1,5 +1,7 @@
 use Rattle.day_rules.specs.Laws.{EveryLog}
 use Rattle.day_rules.proofs.Standing.{Stands}
+use Rattle.day_rules.proofs.Fits as fits
+use Rattle.day_rules.proofs.Sums as sums
 use Rattle.day_rules.proofs.laws.laws_hold.Goals as goal
 
 pub returns : goal.returns
