@@ -1,3 +1,4 @@
 pub mod Fits
+pub mod Orders
 pub mod Standing
 pub mod Sums

@@ -35,3 +35,13 @@ module _ {X : Type 0} (w : X → ℕ) where
     pub sum-without : (k : ℕ) (x : X) (xs : List X) → lookup key k xs ≡ Some x → sum w (without key k xs) + w x ≡ sum w xs
     sum-without k x [] e = cc
     sum-without k x (y ∷ ys) e = grind (arith, nat_tests, sum-without k x ys)
+
+module _ {X : Type 0} where
+  -- fewer records
+  pub length-without : (key : X → ℕ) (k : ℕ) (xs : List X) → length (without key k xs) ≤ length xs
+  length-without key k [] = omega arith
+  length-without key k (x ∷ xs) = grind (arith, nat_tests, length-without key k xs)
+
+  pub length-others : (p : X → Bool) (xs : List X) → length (others p xs) ≤ length xs
+  length-others p [] = omega arith
+  length-others p (x ∷ xs) = grind (arith, nat_tests, length-others p xs)

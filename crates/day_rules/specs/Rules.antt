@@ -105,13 +105,14 @@ rested o d = with_row o.symbol (with_orders (inserted order_key o d.orders) d)
 abbrev pub row_after : Execution → Day → SymbolRow
 row_after e d = with_execution e (row_or_new e.symbol (row_in e.symbol d))
 
--- a row written over the one that stands, or joining the rows
-abbrev pub row_put : SymbolRow → Model SymbolRow → Model SymbolRow
-row_put r m = cond (holds symbol_key (symbol_key r) m.rows) (replacing symbol_key r m) (inserted symbol_key r m)
+-- a row written over the one that stands for its symbol, or joining the rows where none does
+abbrev pub row_put : Option SymbolRow → SymbolRow → Model SymbolRow → Model SymbolRow
+row_put None r m = inserted symbol_key r m
+row_put (Some old) r m = replacing symbol_key r m
 
 -- an execution is stored, and its shares and value are on its symbol's row
 abbrev pub filled : Execution → Day → Day
-filled e d = with_symbols (row_put (row_after e d) d.symbols) (with_executions (inserted execution_key e d.executions) d)
+filled e d = with_symbols (row_put (row_in e.symbol d) (row_after e d) d.symbols) (with_executions (inserted execution_key e d.executions) d)
 
 -- so many of an order's shares, executed at the price that the order has now
 abbrev pub fill_of : (execution shares : ℕ) → Order → Execution

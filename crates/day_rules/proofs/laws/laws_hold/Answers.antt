@@ -1,5 +1,6 @@
 use Rattle.day_rules.specs.Laws.{EveryLog}
 use Rattle.day_rules.proofs.Standing.{Stands}
+use Rattle.day_rules.proofs.Orders as orders
 use Rattle.day_rules.proofs.Fits as fits
 use Rattle.day_rules.proofs.Sums as sums
 use Rattle.day_rules.proofs.laws.laws_hold.Goals as goal
