@@ -1,9 +1,10 @@
 -- What each accepted message leaves of the orders.
 use Rattle.std.proofs.Common.{◌≡◌, ℕ, ◌+◌, ◌-◌, ◌%◌, ◌^◌, ◌<◌, ◌≤◌, Bool, true, false, cond, eqb, ◌||◌, List, [], ◌∷◌, length, is_some, Some, None, Option, refl, sym, ap, ◌∙◌, subst, ⊎_elim, arith}
-use Rattle.std.proofs.lemmas.Bool.{cases_eq, cases_Bool, cond_both, ne_eqb, eq-eqb, eqb-true}
+use Rattle.std.proofs.lemmas.Bool.{cases_eq, cases_Bool, cond_both, ne_eqb, eq-eqb, eqb-true, eqb-false}
 use Rattle.std.proofs.lemmas.Bool.Decides.{nat_tests}
 use Rattle.records.specs.declared.order.Order.{Order}
 use Rattle.records.specs.Keys.{order_key}
+use Rattle.store.proofs.Keyed.{lookup_absent}
 use Rattle.store.proofs.Placed.{each_placed, rising-placed, length-placed}
 use Rattle.store.proofs.Lookups.{lookup-inserted, lookup-placed-other, lookup-replaced, lookup-replaced-other, lookup-without-other, lookup-others}
 use Rattle.store.proofs.Inserting.{absent-unheld}
@@ -16,8 +17,8 @@ use Rattle.day_rules.specs.Events.{Event, clears, adds, executes, cancels, trade
 use Rattle.day_rules.specs.Laws.{IsLeft, IsLeftOf}
 use Rattle.day_rules.specs.Rules.{less_shares}
 use Rattle.day_rules.specs.Words.{History, Accepted, or_added, last_add, is_add, since_add, is_clear, clear_among, off_order, taken_off, brought, off_symbol, if_symbol, reported}
-use Rattle.day_rules.proofs.Standing.{NarrowOrder, Resting, OrderStands, shares_if, OrdersStand}
-use Rattle.day_rules.proofs.Sums.{sum-placed, sum-replaced, sum-without, length-without}
+use Rattle.day_rules.proofs.Standing.{NarrowOrder, Resting, OrderStands, shares_if, OrdersStand, said, own_key}
+use Rattle.day_rules.proofs.Sums.{sum-placed, sum-replaced, sum-without, length-without, length-others}
 
 neither : (p q : Bool) → (p || q) ≡ false → (p ≡ false) × (q ≡ false)
 neither true q e = cc
@@ -91,14 +92,6 @@ module _ (h : History) (a : Accepted) (stays : (s : ℕ) → is_clear s a.event 
       (λ n. let t = there id n in rw t.1 (unmoved h a id t.0.0 t.0.1 stays (lookup order_key id was) (each id)))
       (cases_eq i id)
 
--- an ID's key is the ID
-own_key : (n : ℕ) → n < 2 ^ 64 → n % 2 ^ 64 ≡ n
-own_key n l = omega arith
-
--- an accepted message with its answer
-abbrev pub said : Event → Outcome → Accepted
-said e answered = record { event = e; outcome = answered }
-
 -- a message that takes so many shares off an order, and does nothing else to orders
 pub record Takes (i n : ℕ) (e : Event) : Type 0 where
   pub adds_none : (id : ℕ) → is_add id e ≡ false
@@ -115,6 +108,11 @@ pub record Spares (e : Event) : Type 0 where
   pub brings_none : (s : ℕ) → brought s e ≡ 0
   pub reports_none : (s : ℕ) (answered : Outcome) → reported s e answered ≡ 0
   pub off_none : (s : ℕ) (h : History) → off_symbol s e h ≡ 0
+
+-- the shares of a symbol, with those of one symbol apart
+others_of : (c s : ℕ) (os : List Order) → sum (shares_if s) (others (is_of c) os) + cond (eqb c s) (sum (shares_if c) os) 0 ≡ sum (shares_if s) os
+others_of c s [] = grind (arith, nat_tests)
+others_of c s (o ∷ os) = grind (arith, nat_tests, others_of c s os)
 
 module _ (h : History) (os : List Order) (st : OrdersStand h os) (answered : Outcome) where
   -- an order comes to rest
@@ -216,6 +214,37 @@ module _ (h : History) (os : List Order) (st : OrdersStand h os) (answered : Out
         cond_both (eqb o.shares n) (without order_key o.id os) (replaced order_key (less_shares n o) os) (OrdersStand (said e answered ∷ h)) (λ t. emptied (sym (eqb-true o.shares n t))) (λ t. lessened)
 
   -- the orders of a symbol are cleared
+  module _ (c : ℕ) (reports : answered.shares ≡ sum (shares_if c) os) where
+    cleared : (id : ℕ) (x : Option Order) → lookup order_key id os ≡ x → OrderStands h id x
+        → OrderStands (said (clears c) answered ∷ h) id (lookup order_key id (others (is_of c) os))
+    cleared id None e l =
+        let absent = absent-unheld order_key id os (ap is_some e) in
+        let none : lookup order_key id (others (is_of c) os) ≡ None = lookup_absent order_key id (others (is_of c) os) (each-others (is_of c) (λ o. order_key o ≡ id → ⊥) os absent) in
+        rw none (still_none h (said (clears c) answered) id refl (last_add id h) (since_add id h) refl l)
+    cleared id (Some o) e r =
+        let key = found-key order_key id os o e in
+        ⊎_elim
+        (λ t.
+        let swept = lookup-swept order_key (is_of c) o os st.rising (rw key e) t in
+        let none : lookup order_key id (others (is_of c) os) ≡ None = subst (λ k. lookup order_key k (others (is_of c) os) ≡ None) key swept in
+        let its = eq-eqb c o.symbol (sym (eqb-true o.symbol c t)) in
+        rw none (gone h (said (clears c) answered) id refl o (λ n. cc) r))
+        (λ t.
+        let other = ne_eqb c o.symbol (λ s. eqb-false o.symbol c t (sym s)) in
+        rw (lookup-others order_key (is_of c) id o os t e) (moved h (said (clears c) answered) id refl o o refl refl refl (omega arith) other r))
+        (cases_Bool (is_of c o))
+
+    pub clear-stands : OrdersStand (said (clears c) answered ∷ h) (others (is_of c) os)
+    clear-stands = record {
+      rising = rising-others (is_of c) order_key os st.rising;
+      narrow = each-others (is_of c) NarrowOrder os st.narrow;
+      count = let k = st.count in let l = length-others (is_of c) os in omega arith;
+      each = λ id. cleared id (lookup order_key id os) refl (st.each id);
+      balance = λ s.
+        let b = st.balance s in
+        let o = others_of c s os in
+        rw reports (omega arith);
+    }
 
   -- or no order is spoken of
   pub spare-stands : (e : Event) → Spares e → OrdersStand (said e answered ∷ h) os

@@ -1,14 +1,16 @@
 -- What ties the accepted messages of a log to the day after it.
-use Rattle.std.proofs.Common.{◌≡◌, ℕ, ◌+◌, ◌*◌, ◌^◌, ◌<◌, ◌≤◌, cond, eqb, false, List, [], ◌∷◌, length, Some, None, Option}
+use Rattle.std.proofs.Common.{◌≡◌, ℕ, ◌+◌, ◌*◌, ◌%◌, ◌^◌, ◌<◌, ◌≤◌, cond, eqb, false, List, [], ◌∷◌, length, Some, None, Option, arith}
 use Rattle.records.specs.declared.order.Order.{Order}
 use Rattle.records.specs.declared.execution.Execution.{Execution}
 use Rattle.records.specs.declared.symbol_row.SymbolRow.{SymbolRow}
-use Rattle.records.specs.Keys.{order_key, execution_key, symbol_key}
+use Rattle.records.specs.Keys.{order_key, execution_key, symbol_key, row_worth}
 use Rattle.store.specs.Lists.{Each, Rising, lookup}
 use Rattle.book.specs.Books.{sum}
+use Rattle.day_rules.specs.declared.outcome.Outcome.{Outcome}
 use Rattle.day_rules.specs.Days.{Day, greatest_limit}
 use Rattle.day_rules.specs.Events.{Event, clears, adds, executes, cancels, trades, breaks}
-use Rattle.day_rules.specs.Laws.{IsLeft, volume_in, value_in}
+use Rattle.day_rules.specs.Laws.{IsLeft}
+use Rattle.day_rules.specs.Rows.{execution_worth}
 use Rattle.day_rules.specs.Words.{History, Accepted, last_add, since_add, clear_among, taken_off, shares_added, shares_taken, shares_cleared, fills, times_broken}
 
 -- as a line can give it: an ID and a symbol of 64 bits, ten digits of a price, six of shares
@@ -32,6 +34,14 @@ EventFits (executes i n x) = (i < 2 ^ 64) × (n ≤ 999999) × (x < 2 ^ 64)
 EventFits (cancels i n) = i < 2 ^ 64
 EventFits (trades e) = NarrowFill e × (e.broken ≡ false)
 EventFits (breaks x) = x < 2 ^ 64
+
+-- an accepted message with its answer
+abbrev pub said : Event → Outcome → Accepted
+said e answered = record { event = e; outcome = answered }
+
+-- what is that narrow is kept by its own number
+pub own_key : (n : ℕ) → n < 2 ^ 64 → n % 2 ^ 64 ≡ n
+own_key n l = omega arith
 
 -- Orders.
 
@@ -88,11 +98,20 @@ pub record FillsStand (h : History) (es : List Execution) : Type 0 where
 abbrev pub if_of : (Execution → ℕ) → ℕ → Execution → ℕ
 if_of w s e = cond (eqb e.symbol s) (w e) 0
 
+-- what a row says, a missing one 0
+abbrev pub in_row : (SymbolRow → ℕ) → Option SymbolRow → ℕ
+in_row says None = 0
+in_row says (Some r) = says r
+
+-- a row says what comes to so much of the unbroken ones
+abbrev pub Says : (SymbolRow → ℕ) → (Execution → ℕ) → List Execution → List SymbolRow → Type 0
+Says says w es rs = (s : ℕ) → in_row says (lookup symbol_key s rs) ≡ sum (unless_marked (if_of w s)) es
+
 pub record RowsStand (es : List Execution) (rs : List SymbolRow) : Type 0 where
   pub rising : Rising symbol_key rs
   pub narrow : Each (λ r. r.symbol < 2 ^ 64) rs
-  pub volume : (s : ℕ) → volume_in (lookup symbol_key s rs) ≡ sum (unless_marked (if_of (λ e. e.shares) s)) es
-  pub value : (s : ℕ) → value_in (lookup symbol_key s rs) ≡ sum (unless_marked (if_of (λ e. e.shares * e.price) s)) es
+  pub volume : Says (λ r. r.volume) (λ e. e.shares) es rs
+  pub value : Says row_worth execution_worth es rs
 
 -- All of it.
 pub record Stands (h : History) (d : Day) : Type 0 where

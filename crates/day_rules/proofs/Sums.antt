@@ -37,6 +37,11 @@ module _ {X : Type 0} (w : X → ℕ) where
     sum-without k x (y ∷ ys) e = grind (arith, nat_tests, sum-without k x ys)
 
 module _ {X : Type 0} where
+  -- what holds of all holds of each
+  pub each-all : (P : X → Type 0) → ((x : X) → P x) → (xs : List X) → Each P xs
+  each-all P f [] = tt
+  each-all P f (x ∷ xs) = (f x, each-all P f xs)
+
   -- fewer records
   pub length-without : (key : X → ℕ) (k : ℕ) (xs : List X) → length (without key k xs) ≤ length xs
   length-without key k [] = omega arith
