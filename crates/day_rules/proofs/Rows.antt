@@ -47,8 +47,8 @@ values : Column row_worth execution_worth
 values = record {
   most = 999999 * 9999999999;
   bound = λ e n. mul-le-mul n.shares n.price;
-  more = λ e r l. ?;
-  less = λ e r l. ?;
+  more = λ e r l. parted _ ∙ (omega arith);
+  less = λ e r l. parted _ ∙ (omega arith);
   new = λ s. refl;
 }
 
@@ -82,14 +82,86 @@ module _ (m : Model SymbolRow) (rising : Rising symbol_key m.rows) (narrow : Eac
           rest = λ j n. lookup-replaced-other symbol_key j r m.rows (λ e. n (sym key ∙ e));
         }
 
-    -- there is a row, or room for one
-    put : (not (holds symbol_key r.symbol m.rows) && is_full m) ≡ false → Put r (row_put r m).rows
-    put room =
+    -- over the row that there is, or where there is room for one
+    put : (x : Option SymbolRow) → lookup symbol_key r.symbol m.rows ≡ x → (not (holds symbol_key r.symbol m.rows) && is_full m) ≡ false → Put r (row_put x r m).rows
+    put (Some old) is room =
         let key = own_key r.symbol fits in
+        let found : lookup symbol_key (symbol_key r) m.rows ≡ Some old = rw key is in
+        replaces (ap is_some found)
+    put None is room =
+        let key = own_key r.symbol fits in
+        let free : holds symbol_key r.symbol m.rows ≡ false = ap is_some is in
+        let free_by_key : holds symbol_key (symbol_key r) m.rows ≡ false = rw key free in
+        let full : is_full m ≡ false = rw free at room in
+        rw free_by_key (rw full (placing free_by_key))
+
+-- The row that an execution changes.
+its_symbol : (k : ℕ) (rs : List SymbolRow) (x : Option SymbolRow) → k < 2 ^ 64 → Each (λ r. r.symbol < 2 ^ 64) rs → lookup symbol_key k rs ≡ x → (row_or_new k x).symbol ≡ k
+its_symbol k rs None l n e = refl
+its_symbol k rs (Some r) l n e =
+    let small = found-each symbol_key (λ q. q.symbol < 2 ^ 64) k rs r n e in
+    let key = found-key symbol_key k rs r e in
+    omega arith
+
+module _ (says : SymbolRow → ℕ) (w : Execution → ℕ) (c : Column says w) where
+  -- what a day's executions count is small
+  counts_small : (s : ℕ) (es : List Execution) → Each NarrowFill es → length es ≤ greatest_limit → sum (unless_marked (if_of w s)) es ≤ c.most * greatest_limit
+  counts_small s es narrow few =
+      let each = each-so NarrowFill (λ e. unless_marked (if_of w s) e ≤ c.most) (λ e n. let b = c.bound e n in grind (arith, nat_tests)) es narrow in
+      let all = sum-most (unless_marked (if_of w s)) c.most es each in
+      let room = mul-le-mul_left c.most few in
+      omega arith
+
+  -- a missing row says as much as a new one
+  says_new : (k : ℕ) (x : Option SymbolRow) → says (row_or_new k x) ≡ in_row says x
+  says_new k None = c.new k
+  says_new k (Some r) = refl
+
+  module _ (e : Execution) (unbroken : e.broken ≡ false) (fits : NarrowFill e) (es : List Execution) (narrow : Each NarrowFill es) (few : length es < greatest_limit)
+      (rs : List SymbolRow) (was : Says says w es rs) where
+    old : SymbolRow
+    old = row_or_new e.symbol (lookup symbol_key e.symbol rs)
+
+    counted : unless_marked (if_of w e.symbol) e ≡ w e
+    counted = rw (unbroken, eq-eqb e.symbol e.symbol refl) refl
+
+    one_more : says (with_execution e (row_or_new e.symbol (lookup symbol_key e.symbol rs))) ≡ sum (unless_marked (if_of w e.symbol)) (placed execution_key e es)
+    one_more =
+        let new_sum = sum-placed (unless_marked (if_of w e.symbol)) execution_key e es in
+        let length_now = length-placed execution_key e es in
+        let small = counts_small e.symbol (placed execution_key e es) (each_placed execution_key NarrowFill e es fits narrow) (omega arith) in
+        let before = says_new e.symbol (lookup symbol_key e.symbol rs) ∙ was e.symbol in
+        let its = counted in
+        c.more e (row_or_new e.symbol (lookup symbol_key e.symbol rs)) (omega arith) ∙ (omega arith)
+
+    filled_says : (now : List SymbolRow)
+        → lookup symbol_key e.symbol now ≡ Some (with_execution e (row_or_new e.symbol (lookup symbol_key e.symbol rs))) → ((j : ℕ) → (e.symbol ≡ j → ⊥) → lookup symbol_key j now ≡ lookup symbol_key j rs)
+        → Says says w (placed execution_key e es) now
+    filled_says now here there s =
         ⊎_elim
-        (λ t. let q : holds symbol_key (symbol_key r) m.rows ≡ true = rw key t in rw q (replaces q))
-        (λ t.
-        let q : holds symbol_key (symbol_key r) m.rows ≡ false = rw key t in
-        let full : is_full m ≡ false = rw t at room in
-        rw q (rw full (placing q)))
-        (cases_Bool (holds symbol_key r.symbol m.rows))
+        (λ m. subst (λ k. in_row says (lookup symbol_key k now) ≡ sum (unless_marked (if_of w k)) (placed execution_key e es)) m (rw here one_more))
+        (λ m.
+        let new_sum = sum-placed (unless_marked (if_of w s)) execution_key e es in
+        let before = was s in
+        let none : unless_marked (if_of w s) e ≡ 0 = rw (unbroken, ne_eqb e.symbol s m) refl in
+        rw (there s m) (omega arith))
+        (cases_eq e.symbol s)
+
+-- An execution or a trade.
+pub fill_rows : (e : Execution) → e.broken ≡ false → NarrowFill e → (es : List Execution) → Each NarrowFill es → length es < greatest_limit → (m : Model SymbolRow) → RowsStand es m.rows
+    → (not (holds symbol_key e.symbol m.rows) && is_full m) ≡ false
+    → RowsStand (placed execution_key e es) (row_put (lookup symbol_key e.symbol m.rows) (with_execution e (row_or_new e.symbol (lookup symbol_key e.symbol m.rows))) m).rows
+fill_rows e unbroken fits es narrow few m st room =
+    let found = lookup symbol_key e.symbol m.rows in
+    let r = with_execution e (row_or_new e.symbol found) in
+    let same : r.symbol ≡ e.symbol = its_symbol e.symbol m.rows found fits.symbol st.narrow refl in
+    let now = (row_put found r m).rows in
+    let p : Put m st.rising st.narrow r now = put m st.rising st.narrow r (rw same fits.symbol) found (rw same refl) (rw same room) in
+    let here : lookup symbol_key e.symbol now ≡ Some r = subst (λ k. lookup symbol_key k now ≡ Some r) same p.found in
+    let there : (j : ℕ) → (e.symbol ≡ j → ⊥) → lookup symbol_key j now ≡ lookup symbol_key j m.rows = λ j n. p.rest j (λ t. n (sym same ∙ t)) in
+    record {
+      rising = p.rises;
+      narrow = p.narrows;
+      volume = filled_says _ _ volumes e unbroken fits es narrow few m.rows st.volume now here there;
+      value = filled_says _ _ values e unbroken fits es narrow few m.rows st.value now here there;
+    }
