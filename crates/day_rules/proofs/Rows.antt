@@ -165,3 +165,97 @@ fill_rows e unbroken fits es narrow few m st room =
       volume = filled_says _ _ volumes e unbroken fits es narrow few m.rows st.volume now here there;
       value = filled_says _ _ values e unbroken fits es narrow few m.rows st.value now here there;
     }
+
+-- An add: a row stands for its symbol.
+module _ (says : SymbolRow → ℕ) (w : Execution → ℕ) (c : Column says w) where
+  joined_says : (es : List Execution) (rs now : List SymbolRow) (s : ℕ) → Says says w es rs → lookup symbol_key s rs ≡ None → lookup symbol_key s now ≡ Some (new_row s)
+      → ((j : ℕ) → (s ≡ j → ⊥) → lookup symbol_key j now ≡ lookup symbol_key j rs) → Says says w es now
+  joined_says es rs now s was none here there j =
+      ⊎_elim
+      (λ m. subst (λ k. in_row says (lookup symbol_key k now) ≡ sum (unless_marked (if_of w k)) es) m (rw here (c.new s ∙ sym (ap (in_row says) none) ∙ was s)))
+      (λ m. rw (there j m) (was j))
+      (cases_eq s j)
+
+pub add_rows : (s : ℕ) → s < 2 ^ 64 → (es : List Execution) (m : Model SymbolRow) → RowsStand es m.rows → (not (holds symbol_key s m.rows) && is_full m) ≡ false
+    → RowsStand es (inserted symbol_key (new_row s) m).rows
+add_rows s small es m st room =
+    let key = own_key s small in
+    ⊎_elim
+    (λ t. let q : holds symbol_key (symbol_key (new_row s)) m.rows ≡ true = rw key t in rw q st)
+    (λ t.
+    let none = lookup_absent symbol_key s m.rows (absent-unheld symbol_key s m.rows t) in
+    let q : holds symbol_key (symbol_key (new_row s)) m.rows ≡ false = rw key t in
+    let full : is_full m ≡ false = rw t at room in
+    let p : Put m st.rising st.narrow (new_row s) (placed symbol_key (new_row s) m.rows) = placing m st.rising st.narrow (new_row s) small q in
+    rw q (rw full (record {
+      rising = p.rises;
+      narrow = p.narrows;
+      volume = joined_says _ _ volumes es m.rows _ s st.volume none p.found p.rest;
+      value = joined_says _ _ values es m.rows _ s st.value none p.found p.rest;
+    })))
+    (cases_Bool (holds symbol_key s m.rows))
+
+-- A break.
+module _ (e : Execution) (unbroken : e.broken ≡ false) (es : List Execution) (found : lookup execution_key (execution_key e) es ≡ Some e) where
+  module _ (w : Execution → ℕ) where
+    one_less : (s : ℕ) → sum (unless_marked (if_of w s)) (replaced execution_key (marked e) es) + if_of w s e ≡ sum (unless_marked (if_of w s)) es
+    one_less s =
+        let r = sum-replaced (unless_marked (if_of w s)) execution_key (marked e) e es found in
+        let its : unless_marked (if_of w s) e ≡ if_of w s e = rw unbroken refl in
+        omega arith
+
+  module _ (says : SymbolRow → ℕ) (w : Execution → ℕ) (c : Column says w) (narrow : Each NarrowFill es) (few : length es ≤ greatest_limit) (rs : List SymbolRow) (was : Says says w es rs) where
+    -- another symbol's row says what it said
+    other_says : (s : ℕ) → (e.symbol ≡ s → ⊥) → in_row says (lookup symbol_key s rs) ≡ sum (unless_marked (if_of w s)) (replaced execution_key (marked e) es)
+    other_says s n = let before = was s in let less = one_less w s in let none : if_of w s e ≡ 0 = rw (ne_eqb e.symbol s n) refl in omega arith
+
+    absent_says : lookup symbol_key e.symbol rs ≡ None → Says says w (replaced execution_key (marked e) es) rs
+    absent_says none s =
+        ⊎_elim
+        (λ m.
+        let nothing : in_row says (lookup symbol_key s rs) ≡ 0 = ap (in_row says) (ap (λ k. lookup symbol_key k rs) (sym m) ∙ none) in
+        let before = was s in
+        let less = one_less w s in
+        omega arith)
+        (λ m. other_says s m)
+        (cases_eq e.symbol s)
+
+    taken_says : (r : SymbolRow) (now : List SymbolRow) → lookup symbol_key e.symbol rs ≡ Some r → lookup symbol_key e.symbol now ≡ Some (without_execution e r)
+        → ((j : ℕ) → (e.symbol ≡ j → ⊥) → lookup symbol_key j now ≡ lookup symbol_key j rs) → Says says w (replaced execution_key (marked e) es) now
+    taken_says r now its here there s =
+        ⊎_elim
+        (λ m.
+        let before : says r ≡ sum (unless_marked (if_of w e.symbol)) es = sym (ap (in_row says) its) ∙ was e.symbol in
+        let small = counts_small says w c e.symbol es narrow few in
+        let less = one_less w e.symbol in
+        let one : if_of w e.symbol e ≡ w e = rw (eq-eqb e.symbol e.symbol refl) refl in
+        let left = c.less e r (omega arith) in
+        subst (λ k. in_row says (lookup symbol_key k now) ≡ sum (unless_marked (if_of w k)) (replaced execution_key (marked e) es)) m (rw here (omega arith)))
+        (λ m. rw (there s m) (other_says s m))
+        (cases_eq e.symbol s)
+
+  module _ (narrow : Each NarrowFill es) (few : length es ≤ greatest_limit) (m : Model SymbolRow) (st : RowsStand es m.rows) (small : e.symbol < 2 ^ 64) where
+    taken_rows : (x : Option SymbolRow) → lookup symbol_key e.symbol m.rows ≡ x → RowsStand (replaced execution_key (marked e) es) (row_taken e x m).rows
+    taken_rows None is = record {
+      rising = st.rising;
+      narrow = st.narrow;
+      volume = absent_says _ _ volumes narrow few m.rows st.volume is;
+      value = absent_says _ _ values narrow few m.rows st.value is;
+    }
+    taken_rows (Some r) is =
+        let same = its_symbol e.symbol m.rows (Some r) small st.narrow is in
+        let less = without_execution e r in
+        let found_by_key : lookup symbol_key (symbol_key less) m.rows ≡ Some r = rw (found-key symbol_key e.symbol m.rows r is) is in
+        let now = replaced symbol_key less m.rows in
+        let p : Put m st.rising st.narrow less now = replaces m st.rising st.narrow less (rw same small) (ap is_some found_by_key) in
+        let here : lookup symbol_key e.symbol now ≡ Some less = subst (λ k. lookup symbol_key k now ≡ Some less) same p.found in
+        let there : (j : ℕ) → (e.symbol ≡ j → ⊥) → lookup symbol_key j now ≡ lookup symbol_key j m.rows = λ j n. p.rest j (λ t. n (sym same ∙ t)) in
+        record {
+          rising = p.rises;
+          narrow = p.narrows;
+          volume = taken_says _ _ volumes narrow few m.rows st.volume r now is here there;
+          value = taken_says _ _ values narrow few m.rows st.value r now is here there;
+        }
+
+    pub break_rows : RowsStand (replaced execution_key (marked e) es) (row_taken e (lookup symbol_key e.symbol m.rows) m).rows
+    break_rows = taken_rows (lookup symbol_key e.symbol m.rows) refl
