@@ -23,6 +23,10 @@ use Rattle.day_rules.proofs.Sums.{sum-same, sum-placed, each-all}
 abbrev all_but : ℕ → (Execution → ℕ) → Execution → ℕ
 all_but x w e = cond (eqb x e.id) 0 (w e)
 
+-- one key is one ID
+same_id : (r y : Execution) → NarrowFill r → NarrowFill y → execution_key y ≡ execution_key r → r.id ≡ y.id
+same_id r y n m e = omega arith
+
 -- marking one leaves the others counted
 module _ (w : Execution → ℕ) (r : Execution) (fits : NarrowFill r) (is_broken : r.broken ≡ true) where
   counted_apart : (y : Execution) (ys : List Execution) → Each NarrowFill ys → r.id ≡ y.id → Each (λ z. execution_key y < execution_key z) ys → sum (unless_marked (all_but r.id w)) ys ≡ sum (unless_marked w) ys
@@ -39,7 +43,7 @@ module _ (w : Execution → ℕ) (r : Execution) (fits : NarrowFill r) (is_broke
       let narrow = n.0 in
       ⊎_elim
       (λ e.
-      let same : r.id ≡ y.id = omega arith in
+      let same = same_id r y fits narrow e in
       let rest = counted_apart y ys n.1 same up.0 in
       rw (eq-eqb (execution_key y) (execution_key r) e, eq-eqb r.id y.id same, is_broken) (grind (arith, nat_tests)))
       (λ e.
@@ -125,7 +129,7 @@ module _ (h : History) (es : List Execution) (st : FillsStand h es) (answered : 
             let before : times_broken x h ≡ 0 = st.marks x ∙ rw (found, unbroken) refl in
             subst (λ k. times_broken k (said (breaks x) answered ∷ h) ≡ broken_times (lookup execution_key k (replaced execution_key (marked e) es))) m (rw (now, eq-eqb x x refl) (omega arith)))
             (λ m.
-            let same = lookup-replaced-other execution_key y (marked e) es (λ k. m (sym its ∙ sym key ∙ k)) in
+            let same : lookup execution_key y (replaced execution_key (marked e) es) ≡ lookup execution_key y es = lookup-replaced-other execution_key y (marked e) es (λ k. m (sym its ∙ sym key ∙ k)) in
             let before = st.marks y in
             rw (same, ne_eqb x y m) (omega arith))
             (cases_eq x y);

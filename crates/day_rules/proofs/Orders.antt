@@ -1,6 +1,6 @@
 -- What each accepted message leaves of the orders.
 use Rattle.std.proofs.Common.{◌≡◌, ℕ, ◌+◌, ◌-◌, ◌%◌, ◌^◌, ◌<◌, ◌≤◌, Bool, true, false, cond, eqb, ◌||◌, List, [], ◌∷◌, length, is_some, Some, None, Option, refl, sym, ap, ◌∙◌, subst, ⊎_elim, arith}
-use Rattle.std.proofs.lemmas.Bool.{cases_eq, cases_Bool, cond_both, ne_eqb, eq-eqb, eqb-true, eqb-false}
+use Rattle.std.proofs.lemmas.Bool.{cases_eq, cases_Bool, ne_eqb, eq-eqb, eqb-true, eqb-false}
 use Rattle.std.proofs.lemmas.Bool.Decides.{nat_tests}
 use Rattle.records.specs.declared.order.Order.{Order}
 use Rattle.records.specs.Keys.{order_key}
@@ -178,7 +178,7 @@ module _ (h : History) (os : List Order) (st : OrdersStand h os) (answered : Out
     }
 
     -- shares are taken off an order, and some are left
-    lessened : OrdersStand (said e answered ∷ h) (replaced order_key (less_shares n o) os)
+    pub lessened : OrdersStand (said e answered ∷ h) (replaced order_key (less_shares n o) os)
     lessened =
         let less = less_shares n o in
         let f = fits in
@@ -195,7 +195,7 @@ module _ (h : History) (os : List Order) (st : OrdersStand h os) (answered : Out
         (λ s. let t = sum-replaced (shares_if s) order_key less o os found_by_key in grind (arith, nat_tests))
 
     -- the last ones are
-    emptied : n ≡ o.shares → OrdersStand (said e answered ∷ h) (without order_key o.id os)
+    pub emptied : n ≡ o.shares → OrdersStand (said e answered ∷ h) (without order_key o.id os)
     emptied all =
         let its = rests.same_id in
         let off = here in
@@ -207,11 +207,6 @@ module _ (h : History) (os : List Order) (st : OrdersStand h os) (answered : Out
         (rw (lookup-gone order_key i os st.rising) (gone h (said e answered) i (takes.adds_none i) o (λ t. omega arith) rests))
         (λ j apart. lookup-without-other order_key j i os apart)
         (λ s. let t = sum-without (shares_if s) order_key i o os found in grind (arith, nat_tests)))
-
-    -- as the rules have it
-    pub take-stands : OrdersStand (said e answered ∷ h) (cond (eqb o.shares n) (without order_key o.id os) (replaced order_key (less_shares n o) os))
-    take-stands =
-        cond_both (eqb o.shares n) (without order_key o.id os) (replaced order_key (less_shares n o) os) (OrdersStand (said e answered ∷ h)) (λ t. emptied (sym (eqb-true o.shares n t))) (λ t. lessened)
 
   -- the orders of a symbol are cleared
   module _ (c : ℕ) (reports : answered.shares ≡ sum (shares_if c) os) where

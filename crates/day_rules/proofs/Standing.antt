@@ -115,7 +115,6 @@ pub record RowsStand (es : List Execution) (rs : List SymbolRow) : Type 0 where
 
 -- All of it.
 pub record Stands (h : History) (d : Day) : Type 0 where
-  pub fits : Each (λ a. EventFits a.event) h
   pub count : d.accepted ≡ length h
   pub day_limit : d.day_limit ≤ greatest_limit
   pub within : d.accepted ≤ greatest_limit
