@@ -1,11 +1,11 @@
 -- What each accepted message leaves of the executions and trades.
-use Rattle.std.proofs.Common.{◌≡◌, ℕ, ◌+◌, ◌%◌, ◌^◌, ◌<◌, ◌≤◌, true, false, cond, eqb, List, [], ◌∷◌, length, is_some, Some, None, Option, refl, sym, ap, ◌∙◌, subst, ⊎_elim, arith}
+use Rattle.std.proofs.Common.{◌≡◌, ℕ, ◌+◌, ◌%◌, ◌^◌, ◌<◌, true, false, cond, eqb, List, [], ◌∷◌, is_some, Some, None, refl, sym, ap, ◌∙◌, subst, ⊎_elim, arith}
+use Rattle.std.proofs.Math.Nat.{zero-add}
 use Rattle.std.proofs.lemmas.Bool.{cases_eq, ne_eqb, eq-eqb}
 use Rattle.std.proofs.lemmas.Bool.Decides.{nat_tests}
 use Rattle.records.specs.declared.execution.Execution.{Execution}
 use Rattle.records.specs.Keys.{execution_key}
 use Rattle.store.specs.Lists.{Each, Rising, lookup, holds, placed, replaced}
-use Rattle.store.proofs.Each.{each-so}
 use Rattle.store.proofs.Inserting.{absent-unheld}
 use Rattle.store.proofs.Keyed.{lookup_absent}
 use Rattle.store.proofs.Lookups.{lookup-inserted, lookup-placed-other, lookup-replaced, lookup-replaced-other}
@@ -13,9 +13,9 @@ use Rattle.store.proofs.Placed.{each_placed, rising-placed, length-placed}
 use Rattle.store.proofs.Ruling.{found-key, found-each, each-replaced, rising-replaced, length-replaced}
 use Rattle.book.specs.Books.{sum}
 use Rattle.day_rules.specs.declared.outcome.Outcome.{Outcome}
-use Rattle.day_rules.specs.Events.{Event, clears, adds, executes, cancels, trades, breaks}
+use Rattle.day_rules.specs.Events.{Event, breaks}
 use Rattle.day_rules.specs.Rules.{marked}
-use Rattle.day_rules.specs.Words.{History, Accepted, fills, then_fill, breaks_of, times_broken}
+use Rattle.day_rules.specs.Words.{History, fills, then_fill, breaks_of, times_broken}
 use Rattle.day_rules.proofs.Standing.{NarrowFill, broken_times, unless_broken, unless_marked, FillsStand, said, own_key}
 use Rattle.day_rules.proofs.Sums.{sum-same, sum-placed, each-all}
 
@@ -88,15 +88,15 @@ module _ (h : History) (es : List Execution) (st : FillsStand h es) (answered : 
         narrow = each_placed execution_key NarrowFill e es fits st.narrow;
         count = let c = st.count in let l = length-placed execution_key e es in omega arith;
         marks = λ x.
-          ⊎_elim
-          (λ m. subst (λ k. times_broken k (said ev answered ∷ h) ≡ broken_times (lookup execution_key k (placed execution_key e es))) m (never ∙ rw (found, unbroken) refl))
-          (λ m. times_same ev u x ∙ st.marks x ∙ ap broken_times (sym (lookup-placed-other execution_key x e es (λ k. m (sym key ∙ k)))))
-          (cases_eq e.id x);
+            ⊎_elim
+            (λ m. subst (λ k. times_broken k (said ev answered ∷ h) ≡ broken_times (lookup execution_key k (placed execution_key e es))) m (never ∙ rw (found, unbroken) refl))
+            (λ m. times_same ev u x ∙ st.marks x ∙ ap broken_times (sym (lookup-placed-other execution_key x e es (λ k. m (sym key ∙ k)))))
+            (cases_eq e.id x);
         same = λ w.
-          let more = sum-placed (unless_marked w) execution_key e es in
-          let rest = same_fills w ev u (fills h) ∙ st.same w in
-          let one : unless_broken w (said ev answered ∷ h) e ≡ unless_marked w e = rw (never, unbroken) refl in
-          rw fill (omega arith);
+            let more = sum-placed (unless_marked w) execution_key e es in
+            let rest = same_fills w ev u (fills h) ∙ st.same w in
+            let one : unless_broken w (said ev answered ∷ h) e ≡ unless_marked w e = rw (never, unbroken) refl in
+            rw fill (omega arith);
       }
 
   -- one is broken
@@ -118,24 +118,23 @@ module _ (h : History) (es : List Execution) (st : FillsStand h es) (answered : 
         let narrow : NarrowFill (marked e) = record { id = f.id; symbol = f.symbol; price = f.price; shares = f.shares } in
         let found_by_key : lookup execution_key (execution_key e) es ≡ Some e = rw (key ∙ its) found in
         let now : lookup execution_key x (replaced execution_key (marked e) es) ≡ Some (marked e) =
-            subst (λ k. lookup execution_key k (replaced execution_key (marked e) es) ≡ Some (marked e)) (key ∙ its) (lookup-replaced execution_key (marked e) es (ap is_some found_by_key)) in
+        subst (λ k. lookup execution_key k (replaced execution_key (marked e) es) ≡ Some (marked e)) (key ∙ its) (lookup-replaced execution_key (marked e) es (ap is_some found_by_key)) in
         record {
           rising = rising-replaced execution_key (marked e) es st.rising;
           narrow = each-replaced execution_key NarrowFill (marked e) es narrow st.narrow;
           count = let c = st.count in let l = length-replaced execution_key (marked e) es in omega arith;
           marks = λ y.
-            ⊎_elim
-            (λ m.
-            let before : times_broken x h ≡ 0 = st.marks x ∙ rw (found, unbroken) refl in
-            subst (λ k. times_broken k (said (breaks x) answered ∷ h) ≡ broken_times (lookup execution_key k (replaced execution_key (marked e) es))) m (rw (now, eq-eqb x x refl) (omega arith)))
-            (λ m.
-            let same : lookup execution_key y (replaced execution_key (marked e) es) ≡ lookup execution_key y es = lookup-replaced-other execution_key y (marked e) es (λ k. m (sym its ∙ sym key ∙ k)) in
-            let before = st.marks y in
-            rw (same, ne_eqb x y m) (omega arith))
-            (cases_eq x y);
+              ⊎_elim
+              (λ m.
+              let before : times_broken x h ≡ 0 = st.marks x ∙ rw (found, unbroken) refl in
+              subst (λ k. times_broken k (said (breaks x) answered ∷ h) ≡ broken_times (lookup execution_key k (replaced execution_key (marked e) es))) m (rw (now, eq-eqb x x refl) (omega arith)))
+              (λ m.
+              let same : lookup execution_key y (replaced execution_key (marked e) es) ≡ lookup execution_key y es = lookup-replaced-other execution_key y (marked e) es (λ k. m (sym its ∙ sym key ∙ k)) in
+              rw (same, ne_eqb x y m) (zero-add (times_broken y h) ∙ st.marks y))
+              (cases_eq x y);
           same = λ w.
-            sum-same (unless_broken w (said (breaks x) answered ∷ h)) (unless_broken (all_but x w) h) (fills h) (each-all _ (once_more w) (fills h))
-            ∙ st.same (all_but x w)
-            ∙ ap (λ k. sum (unless_marked (all_but k w)) es) (sym its)
-            ∙ sum-marked w (marked e) narrow refl es st.rising st.narrow;
+              sum-same (unless_broken w (said (breaks x) answered ∷ h)) (unless_broken (all_but x w) h) (fills h) (each-all _ (once_more w) (fills h))
+              ∙ st.same (all_but x w)
+              ∙ ap (λ k. sum (unless_marked (all_but k w)) es) (sym its)
+              ∙ sum-marked w (marked e) narrow refl es st.rising st.narrow;
         }

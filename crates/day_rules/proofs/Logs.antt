@@ -1,5 +1,5 @@
 -- Every log adds up, as what it stands for does.
-use Rattle.std.proofs.Common.{◌≡◌, ℕ, ◌+◌, ◌≤◌, Bool, true, false, cond, eqb, leb, ◌&&◌, List, [], ◌∷◌, Some, None, Ok, Err, Option, Result, refl, sym, ap, ◌∙◌, subst, arith}
+use Rattle.std.proofs.Common.{◌≡◌, ℕ, ◌≤◌, cond, leb, List, [], ◌∷◌, Some, None, Ok, Err, Option, Result, refl, sym, ◌∙◌, arith}
 use Rattle.std.proofs.lemmas.Bool.{leb-false}
 use Rattle.std.proofs.lemmas.Bool.Decides.{nat_tests}
 use Rattle.messages.specs.declared.fault.MessageFault.{MessageFault}
@@ -8,20 +8,20 @@ use Rattle.messages.specs.Telling.{line_message}
 use Rattle.records.specs.declared.order.Order.{Order}
 use Rattle.records.specs.declared.execution.Execution.{Execution}
 use Rattle.records.specs.declared.symbol_row.SymbolRow.{SymbolRow}
-use Rattle.records.specs.Keys.{execution_key, symbol_key, row_worth}
+use Rattle.records.specs.Keys.{execution_key, row_worth}
 use Rattle.store.specs.Lists.{lookup}
 use Rattle.book.specs.Books.{sum}
 use Rattle.day_rules.specs.declared.fault.LedgerFault.{LedgerFault}
 use Rattle.day_rules.specs.Days.{Day}
-use Rattle.day_rules.specs.Events.{Event, event_of}
-use Rattle.day_rules.specs.Laws.{IsLeft, shares_of, volume_in, value_in, LogLaws, EveryLog}
+use Rattle.day_rules.specs.Events.{event_of}
+use Rattle.day_rules.specs.Laws.{IsLeft, shares_of, volume_in, value_in, EveryLog}
 use Rattle.day_rules.specs.Log.{Log, IsOpening, Logged, told, asked}
 use Rattle.day_rules.specs.Rows.{execution_worth}
 use Rattle.day_rules.specs.Rules.{order_in, row_in, allowed, permitted, outcome, after, counted, or_refused, or_same, message_answer, message_after, answer, next}
-use Rattle.day_rules.specs.Words.{History, history, fills, times_broken, counts_for, traded}
+use Rattle.day_rules.specs.Words.{History, history, fills, counts_for, traded}
 use Rattle.day_rules.proofs.Depths.{resting}
 use Rattle.day_rules.proofs.Fits.{line-fits}
-use Rattle.day_rules.proofs.Standing.{Resting, OrderStands, broken_times, unless_broken, unless_marked, if_of, in_row, Stands}
+use Rattle.day_rules.proofs.Standing.{OrderStands, broken_times, unless_broken, unless_marked, if_of, in_row, Stands}
 use Rattle.day_rules.proofs.Stepping.{passed, few_orders, step}
 use Rattle.day_rules.proofs.Sums.{sum-same, sum-those, each-all}
 

@@ -1,5 +1,5 @@
 -- What each accepted message leaves of the orders.
-use Rattle.std.proofs.Common.{◌≡◌, ℕ, ◌+◌, ◌-◌, ◌%◌, ◌^◌, ◌<◌, ◌≤◌, Bool, true, false, cond, eqb, ◌||◌, List, [], ◌∷◌, length, is_some, Some, None, Option, refl, sym, ap, ◌∙◌, subst, ⊎_elim, arith}
+use Rattle.std.proofs.Common.{◌≡◌, ℕ, ◌+◌, ◌≤◌, Bool, true, false, cond, eqb, ◌||◌, List, [], ◌∷◌, length, is_some, Some, None, Option, refl, sym, ap, ◌∙◌, subst, ⊎_elim, arith}
 use Rattle.std.proofs.lemmas.Bool.{cases_eq, cases_Bool, ne_eqb, eq-eqb, eqb-true, eqb-false}
 use Rattle.std.proofs.lemmas.Bool.Decides.{nat_tests}
 use Rattle.records.specs.declared.order.Order.{Order}
@@ -10,22 +10,24 @@ use Rattle.store.proofs.Lookups.{lookup-inserted, lookup-placed-other, lookup-re
 use Rattle.store.proofs.Inserting.{absent-unheld}
 use Rattle.store.proofs.Ruling.{found-key, found-each, each-replaced, rising-replaced, length-replaced, each-without, rising-without, lookup-gone, lookup-swept}
 use Rattle.store.proofs.Sweeps.{each-others, rising-others}
-use Rattle.store.specs.Lists.{Each, Rising, lookup, holds, placed, replaced, without, those, others}
+use Rattle.store.specs.Lists.{Each, Rising, lookup, holds, placed, replaced, without, others}
 use Rattle.book.specs.Books.{sum, is_of}
 use Rattle.day_rules.specs.declared.outcome.Outcome.{Outcome}
 use Rattle.day_rules.specs.Events.{Event, clears, adds, executes, cancels, trades, breaks}
 use Rattle.day_rules.specs.Laws.{IsLeft, IsLeftOf}
 use Rattle.day_rules.specs.Rules.{less_shares}
-use Rattle.day_rules.specs.Words.{History, Accepted, or_added, last_add, is_add, since_add, is_clear, clear_among, off_order, taken_off, brought, off_symbol, if_symbol, reported}
+use Rattle.day_rules.specs.Words.{History, Accepted, or_added, last_add, is_add, since_add, is_clear, clear_among, off_order, brought, off_symbol, if_symbol, reported}
 use Rattle.day_rules.proofs.Standing.{NarrowOrder, Resting, OrderStands, shares_if, OrdersStand, said, own_key}
 use Rattle.day_rules.proofs.Sums.{sum-placed, sum-replaced, sum-without, length-without, length-others}
 
+-- neither of two tests
 neither : (p q : Bool) → (p || q) ≡ false → (p ≡ false) × (q ≡ false)
 neither true q e = cc
 neither false q e = (refl, e)
 
 -- One order.
 
+-- a message that adds no order of the ID leaves the last one
 unadded : (id : ℕ) (e : Event) (earlier : Option Order) → is_add id e ≡ false → or_added id e earlier ≡ earlier
 unadded id (clears s) earlier n = refl
 unadded id (adds o) earlier n = rw n refl
@@ -64,8 +66,7 @@ module _ (h : History) (a : Accepted) (id : ℕ) (none : is_add id a.event ≡ f
   gone o g r =
       let last = unadded id a.event (last_add id h) none ∙ r.last in
       let l = r.left in
-      rw (last, since)
-      (
+      rw (last, since) (
         (λ e. refl),
         (λ e. let off = g (rw r.same_symbol at (neither (is_clear r.added.symbol a.event) (clear_among r.added.symbol (since_add id h)) e).0) in omega arith),
       )
@@ -136,7 +137,7 @@ module _ (h : History) (os : List Order) (st : OrdersStand h os) (answered : Out
         narrow = each_placed order_key NarrowOrder o os fits st.narrow;
         count = let c = st.count in let l = length-placed order_key o os in omega arith;
         each = all-but h (said (adds o) answered) (λ s. refl) os (placed order_key o os) st.each o.id (rw found rests)
-          (λ j n. ((ne_eqb o.id j n, refl), lookup-placed-other order_key j o os (λ e. n (sym key ∙ e))));
+            (λ j n. ((ne_eqb o.id j n, refl), lookup-placed-other order_key j o os (λ e. n (sym key ∙ e))));
         balance = λ s. let b = st.balance s in let p = sum-placed (shares_if s) order_key o os in omega arith;
       }
 
@@ -167,14 +168,14 @@ module _ (h : History) (os : List Order) (st : OrdersStand h os) (answered : Out
       narrow = narrow;
       count = let c = st.count in omega arith;
       each = all-but h (said e answered) takes.clears_none os now st.each i stands
-        (λ j apart. ((takes.adds_none j, takes.off j ∙ rw (ne_eqb i j apart) refl), there j apart));
+          (λ j apart. ((takes.adds_none j, takes.off j ∙ rw (ne_eqb i j apart) refl), there j apart));
       balance = λ s.
-        let b = st.balance s in
-        let br = takes.brings_none s in
-        let r = takes.reports_none s answered in
-        let its = its_shares s in
-        let t = total s in
-        omega arith;
+          let b = st.balance s in
+          let br = takes.brings_none s in
+          let r = takes.reports_none s answered in
+          let its = its_shares s in
+          let t = total s in
+          omega arith;
     }
 
     -- shares are taken off an order, and some are left
@@ -236,9 +237,9 @@ module _ (h : History) (os : List Order) (st : OrdersStand h os) (answered : Out
       count = let k = st.count in let l = length-others (is_of c) os in omega arith;
       each = λ id. cleared id (lookup order_key id os) refl (st.each id);
       balance = λ s.
-        let b = st.balance s in
-        let o = others_of c s os in
-        rw reports (omega arith);
+          let b = st.balance s in
+          let o = others_of c s os in
+          rw reports (omega arith);
     }
 
   -- or no order is spoken of
@@ -249,9 +250,9 @@ module _ (h : History) (os : List Order) (st : OrdersStand h os) (answered : Out
     count = let c = st.count in omega arith;
     each = λ id. unmoved h (said e answered) id (spares.skips id).0 (spares.skips id).1 spares.clears_none (lookup order_key id os) (st.each id);
     balance = λ s.
-      let b = st.balance s in
-      let br = spares.brings_none s in
-      let r = spares.reports_none s answered in
-      let f = spares.off_none s h in
-      omega arith;
+        let b = st.balance s in
+        let br = spares.brings_none s in
+        let r = spares.reports_none s answered in
+        let f = spares.off_none s h in
+        omega arith;
   }

@@ -1,5 +1,5 @@
 -- What each accepted message leaves of the symbols' rows.
-use Rattle.std.proofs.Common.{◌≡◌, ℕ, ◌+◌, ◌-◌, ◌*◌, ◌/◌, ◌%◌, ◌^◌, ◌<◌, ◌≤◌, Bool, true, false, cond, not, eqb, ◌&&◌, List, [], ◌∷◌, length, is_some, Some, None, Option, refl, sym, ap, ◌∙◌, subst, ⊎_elim, arith}
+use Rattle.std.proofs.Common.{◌≡◌, ℕ, ◌+◌, ◌-◌, ◌*◌, ◌/◌, ◌%◌, ◌^◌, ◌<◌, ◌≤◌, true, false, not, ◌&&◌, List, length, is_some, Some, None, Option, refl, sym, ap, ◌∙◌, subst, ⊎_elim, arith}
 use Rattle.std.proofs.Math.Nat.{mul-le-mul, mul-le-mul_left}
 use Rattle.std.proofs.lemmas.Bool.{cases_eq, cases_Bool, ne_eqb, eq-eqb}
 use Rattle.std.proofs.lemmas.Bool.Decides.{nat_tests}
@@ -7,7 +7,7 @@ use Rattle.records.specs.declared.execution.Execution.{Execution}
 use Rattle.records.specs.declared.symbol_row.SymbolRow.{SymbolRow}
 use Rattle.records.specs.Keys.{execution_key, symbol_key, row_worth}
 use Rattle.store.specs.Lists.{Each, Rising, lookup, holds, placed, replaced}
-use Rattle.store.specs.Models.{Model, inserted, replacing}
+use Rattle.store.specs.Models.{Model, inserted}
 use Rattle.store.proofs.Each.{each-so}
 use Rattle.store.proofs.Inserting.{absent-unheld}
 use Rattle.store.proofs.Keyed.{lookup_absent}
@@ -16,10 +16,10 @@ use Rattle.store.proofs.Placed.{each_placed, rising-placed, length-placed}
 use Rattle.store.proofs.Ruling.{found-key, found-each, each-replaced, rising-replaced}
 use Rattle.book.specs.Books.{sum}
 use Rattle.day_rules.specs.Days.{greatest_limit}
-use Rattle.day_rules.specs.Rows.{row_of, execution_worth, with_execution, without_execution, new_row, row_or_new}
+use Rattle.day_rules.specs.Rows.{execution_worth, with_execution, without_execution, new_row, row_or_new}
 use Rattle.day_rules.specs.Rules.{is_full, row_put, row_taken, marked}
 use Rattle.day_rules.proofs.Standing.{NarrowFill, unless_marked, if_of, in_row, Says, RowsStand, own_key}
-use Rattle.day_rules.proofs.Sums.{sum-same, sum-most, sum-placed, sum-replaced}
+use Rattle.day_rules.proofs.Sums.{sum-most, sum-placed, sum-replaced}
 
 -- A column of the rows: what a row says, and what an execution counts in it.
 record Column (says : SymbolRow → ℕ) (w : Execution → ℕ) : Type 0 where
@@ -31,6 +31,7 @@ record Column (says : SymbolRow → ℕ) (w : Execution → ℕ) : Type 0 where
   less : (e : Execution) (r : SymbolRow) → says r ≤ most * greatest_limit → says (without_execution e r) ≡ says r - w e
   new : (s : ℕ) → says (new_row s) ≡ 0
 
+-- a number is its two parts
 parted : (n : ℕ) → n / 10 ^ 16 * 10 ^ 16 + n % 10 ^ 16 ≡ n
 parted n = omega arith
 

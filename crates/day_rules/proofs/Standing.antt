@@ -1,5 +1,5 @@
 -- What ties the accepted messages of a log to the day after it.
-use Rattle.std.proofs.Common.{◌≡◌, ℕ, ◌+◌, ◌*◌, ◌%◌, ◌^◌, ◌<◌, ◌≤◌, cond, eqb, false, List, [], ◌∷◌, length, Some, None, Option, arith}
+use Rattle.std.proofs.Common.{◌≡◌, ℕ, ◌+◌, ◌%◌, ◌^◌, ◌<◌, ◌≤◌, cond, eqb, false, List, length, Some, None, Option, arith}
 use Rattle.records.specs.declared.order.Order.{Order}
 use Rattle.records.specs.declared.execution.Execution.{Execution}
 use Rattle.records.specs.declared.symbol_row.SymbolRow.{SymbolRow}
@@ -39,7 +39,7 @@ EventFits (breaks x) = x < 2 ^ 64
 abbrev pub said : Event → Outcome → Accepted
 said e answered = record { event = e; outcome = answered }
 
--- what is that narrow is kept by its own number
+-- a number that is narrow enough is its own key
 pub own_key : (n : ℕ) → n < 2 ^ 64 → n % 2 ^ 64 ≡ n
 own_key n l = omega arith
 

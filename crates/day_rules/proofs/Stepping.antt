@@ -1,13 +1,12 @@
 -- Each accepted message leaves a day that the log stands for.
-use Rattle.std.proofs.Common.{◌≡◌, ℕ, ◌+◌, ◌<◌, ◌≤◌, Bool, true, false, cond, not, eqb, ltb, ◌&&◌, List, [], ◌∷◌, length, Some, None, Ok, Err, Option, Result, refl, sym, ap, ◌∙◌, subst, arith}
+use Rattle.std.proofs.Common.{◌≡◌, ℕ, ◌<◌, ◌≤◌, Bool, true, false, cond, eqb, ltb, ◌∷◌, length, Some, None, Ok, Err, Option, Result, refl, sym, subst, arith}
 use Rattle.std.proofs.lemmas.Bool.{cond_both, eqb-true, ltb-false}
 use Rattle.records.specs.declared.order.Order.{Order}
 use Rattle.records.specs.declared.execution.Execution.{Execution}
-use Rattle.records.specs.Keys.{order_key, execution_key, symbol_key}
-use Rattle.store.specs.Lists.{lookup, holds, placed, others}
+use Rattle.records.specs.Keys.{order_key, execution_key}
+use Rattle.store.specs.Lists.{lookup, holds, placed}
 use Rattle.store.specs.Models.{Model, holding, inserted, replacing, removing}
 use Rattle.store.proofs.Ruling.{found-key, found-each}
-use Rattle.book.specs.Books.{is_of}
 use Rattle.day_rules.specs.declared.fault.LedgerFault.{LedgerFault}
 use Rattle.day_rules.specs.declared.outcome.Outcome.{Outcome}
 use Rattle.day_rules.specs.Days.{Day, with_orders, greatest_limit}
