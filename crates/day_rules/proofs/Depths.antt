@@ -1,24 +1,34 @@
 -- The shares that rest, and those that a clear reports: no sum of them stops.
-use Rattle.std.proofs.Common.{◌≡◌, ℕ, ◌+◌, ◌*◌, ◌≤◌, cond, List, [], ◌∷◌, length, refl, arith}
+use Rattle.std.proofs.Common.{◌≡◌, ℕ, ◌+◌, ◌*◌, ◌≤◌, cond, List, [], ◌∷◌, length, ⊎_elim, inl, inr, ◌⊎◌, refl, arith}
 use Rattle.std.proofs.lemmas.Bool.Decides.{nat_tests}
 use Rattle.messages.specs.declared.code.Side.{Side}
 use Rattle.messages.specs.declared.code.Side.TheVariants.{Buy, Sell}
 use Rattle.records.specs.declared.order.Order.{Order}
 use Rattle.store.specs.Lists.{Each, those}
 use Rattle.store.proofs.Each.{each-so}
-use Rattle.book.specs.Books.{sum, is_of, rests_on, same_side, depth_of}
+use Rattle.book.specs.Books.{sum, is_of, rests_on, depth_of}
 use Rattle.day_rules.specs.Days.{greatest_limit}
 use Rattle.day_rules.proofs.Standing.{NarrowOrder, shares_if}
 use Rattle.day_rules.proofs.Sums.{sum-most, sum-those}
 
+either_side : (side : Side) → (side ≡ Buy) ⊎ (side ≡ Sell)
+either_side Buy = inl refl
+either_side Sell = inr refl
+
 -- an order rests on one of the two sides
-on_sides : (s : ℕ) (side : Side) (n : ℕ) → cond (same_side Buy side) n 0 + cond (same_side Sell side) n 0 ≡ n
-on_sides s Buy n = omega arith
-on_sides s Sell n = omega arith
+one_side : (s : ℕ) (o : Order) → cond (rests_on s Buy o) o.shares 0 + cond (rests_on s Sell o) o.shares 0 ≡ shares_if s o
+one_side s o = ⊎_elim (λ e. rw e (grind (arith, nat_tests))) (λ e. rw e (grind (arith, nat_tests))) (either_side o.side)
 
 both_sides : (s : ℕ) (os : List Order) → sum (λ o. o.shares) (those (rests_on s Buy) os) + sum (λ o. o.shares) (those (rests_on s Sell) os) ≡ sum (shares_if s) os
 both_sides s [] = refl
-both_sides s (o ∷ os) = grind (arith, nat_tests, on_sides s o.side o.shares, both_sides s os)
+both_sides s (o ∷ os) =
+    let rest = both_sides s os in
+    let one = one_side s o in
+    let buys = sum-those (λ o. o.shares) (rests_on s Buy) (o ∷ os) in
+    let sells = sum-those (λ o. o.shares) (rests_on s Sell) (o ∷ os) in
+    let buys_rest = sum-those (λ o. o.shares) (rests_on s Buy) os in
+    let sells_rest = sum-those (λ o. o.shares) (rests_on s Sell) os in
+    omega arith
 
 module _ (os : List Order) (narrow : Each NarrowOrder os) (few : length os ≤ greatest_limit) (s : ℕ) where
   small : sum (shares_if s) os ≤ 999999 * length os
