@@ -7,6 +7,7 @@ use Rattle.records.specs.declared.symbol_row.SymbolRow.{SymbolRow}
 use Rattle.records.specs.Keys.{symbol_key}
 use Rattle.store.specs.Lists.{first_from}
 use Rattle.book.specs.declared.types.Book.{Book}
+use Rattle.book.specs.declared.types.Turnover.{Turnover}
 use Rattle.book.specs.Books.{book_of}
 use Rattle.day_rules.specs.Days.{Day}
 use Rattle.day_rules.specs.Rules.{order_in, execution_in, row_in}
