@@ -1,1 +1,9 @@
+pub mod Depths
+pub mod Fills
+pub mod Fits
+pub mod Logs
+pub mod Orders
+pub mod Rows
 pub mod Standing
+pub mod Stepping
+pub mod Sums

@@ -1,24 +1,47 @@
 -- What ties the accepted messages of a log to the day after it.
-use Rattle.std.proofs.Common.{◌≡◌, ℕ, ◌+◌, ◌*◌, ◌^◌, ◌<◌, ◌≤◌, cond, eqb, false, List, [], ◌∷◌, length, Some, None, Option}
+use Rattle.std.proofs.Common.{◌≡◌, ℕ, ◌+◌, ◌%◌, ◌^◌, ◌<◌, ◌≤◌, cond, eqb, false, List, length, Some, None, Option, arith}
 use Rattle.records.specs.declared.order.Order.{Order}
 use Rattle.records.specs.declared.execution.Execution.{Execution}
 use Rattle.records.specs.declared.symbol_row.SymbolRow.{SymbolRow}
-use Rattle.records.specs.Keys.{order_key, execution_key, symbol_key}
+use Rattle.records.specs.Keys.{order_key, execution_key, symbol_key, row_worth}
 use Rattle.store.specs.Lists.{Each, Rising, lookup}
 use Rattle.book.specs.Books.{sum}
+use Rattle.day_rules.specs.declared.outcome.Outcome.{Outcome}
 use Rattle.day_rules.specs.Days.{Day, greatest_limit}
 use Rattle.day_rules.specs.Events.{Event, clears, adds, executes, cancels, trades, breaks}
-use Rattle.day_rules.specs.Laws.{IsLeft, volume_in, value_in}
+use Rattle.day_rules.specs.Laws.{IsLeft}
+use Rattle.day_rules.specs.Rows.{execution_worth}
 use Rattle.day_rules.specs.Words.{History, Accepted, last_add, since_add, clear_among, taken_off, shares_added, shares_taken, shares_cleared, fills, times_broken}
 
--- what a line can say: an ID and a symbol of 64 bits, six digits of shares, ten of a price
+-- as a line can give it: an ID and a symbol of 64 bits, ten digits of a price, six of shares
+pub record NarrowOrder (o : Order) : Type 0 where
+  pub id : o.id < 2 ^ 64
+  pub symbol : o.symbol < 2 ^ 64
+  pub price : o.price ≤ 9999999999
+  pub shares : o.shares ≤ 999999
+
+pub record NarrowFill (e : Execution) : Type 0 where
+  pub id : e.id < 2 ^ 64
+  pub symbol : e.symbol < 2 ^ 64
+  pub price : e.price ≤ 9999999999
+  pub shares : e.shares ≤ 999999
+
+-- what a line can say
 abbrev pub EventFits : Event → Type 0
 EventFits (clears s) = s < 2 ^ 64
-EventFits (adds o) = (o.id < 2 ^ 64) × (o.symbol < 2 ^ 64) × (o.shares ≤ 999999)
+EventFits (adds o) = NarrowOrder o
 EventFits (executes i n x) = (i < 2 ^ 64) × (n ≤ 999999) × (x < 2 ^ 64)
 EventFits (cancels i n) = i < 2 ^ 64
-EventFits (trades e) = (e.id < 2 ^ 64) × (e.symbol < 2 ^ 64) × (e.shares ≤ 999999) × (e.price ≤ 9999999999) × (e.broken ≡ false)
+EventFits (trades e) = NarrowFill e × (e.broken ≡ false)
 EventFits (breaks x) = x < 2 ^ 64
+
+-- an accepted message with its answer
+abbrev pub said : Event → Outcome → Accepted
+said e answered = record { event = e; outcome = answered }
+
+-- a number that is narrow enough is its own key
+pub own_key : (n : ℕ) → n < 2 ^ 64 → n % 2 ^ 64 ≡ n
+own_key n l = omega arith
 
 -- Orders.
 
@@ -42,7 +65,8 @@ shares_if s o = cond (eqb o.symbol s) o.shares 0
 
 pub record OrdersStand (h : History) (os : List Order) : Type 0 where
   pub rising : Rising order_key os
-  pub narrow : Each (λ o. (o.id < 2 ^ 64) × (o.price ≤ 9999999999)) os
+  pub narrow : Each NarrowOrder os
+  pub count : length os ≤ length h
   pub each : (id : ℕ) → OrderStands h id (lookup order_key id os)
   pub balance : (s : ℕ) → shares_added s h ≡ sum (shares_if s) os + shares_taken s h + shares_cleared s h
 
@@ -64,7 +88,8 @@ unless_marked w e = cond e.broken 0 (w e)
 -- the unbroken ones stored are those of the log: whatever is counted of each, it comes to the same
 pub record FillsStand (h : History) (es : List Execution) : Type 0 where
   pub rising : Rising execution_key es
-  pub narrow : Each (λ e. e.id < 2 ^ 64) es
+  pub narrow : Each NarrowFill es
+  pub count : length es ≤ length h
   pub marks : (x : ℕ) → times_broken x h ≡ broken_times (lookup execution_key x es)
   pub same : (w : Execution → ℕ) → sum (unless_broken w h) (fills h) ≡ sum (unless_marked w) es
 
@@ -73,15 +98,23 @@ pub record FillsStand (h : History) (es : List Execution) : Type 0 where
 abbrev pub if_of : (Execution → ℕ) → ℕ → Execution → ℕ
 if_of w s e = cond (eqb e.symbol s) (w e) 0
 
+-- what a row says, a missing one 0
+abbrev pub in_row : (SymbolRow → ℕ) → Option SymbolRow → ℕ
+in_row says None = 0
+in_row says (Some r) = says r
+
+-- a row says what comes to so much of the unbroken ones
+abbrev pub Says : (SymbolRow → ℕ) → (Execution → ℕ) → List Execution → List SymbolRow → Type 0
+Says says w es rs = (s : ℕ) → in_row says (lookup symbol_key s rs) ≡ sum (unless_marked (if_of w s)) es
+
 pub record RowsStand (es : List Execution) (rs : List SymbolRow) : Type 0 where
   pub rising : Rising symbol_key rs
   pub narrow : Each (λ r. r.symbol < 2 ^ 64) rs
-  pub volume : (s : ℕ) → volume_in (lookup symbol_key s rs) ≡ sum (unless_marked (if_of (λ e. e.shares) s)) es
-  pub value : (s : ℕ) → value_in (lookup symbol_key s rs) ≡ sum (unless_marked (if_of (λ e. e.shares * e.price) s)) es
+  pub volume : Says (λ r. r.volume) (λ e. e.shares) es rs
+  pub value : Says row_worth execution_worth es rs
 
 -- All of it.
 pub record Stands (h : History) (d : Day) : Type 0 where
-  pub fits : Each (λ a. EventFits a.event) h
   pub count : d.accepted ≡ length h
   pub day_limit : d.day_limit ≤ greatest_limit
   pub within : d.accepted ≤ greatest_limit

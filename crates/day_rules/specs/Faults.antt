@@ -1,7 +1,6 @@
 -- Each refusal's number, and what it carries.
-use Rattle.std.specs.Prelude.{ℕ, List, []}
-use Rattle.messages.specs.Faults.{number_of, carried_of}
-use Rattle.day_rules.specs.declared.fault.Kept.{Kept}
+use Rattle.std.specs.Prelude.{ℕ}
+use Rattle.messages.specs.Faults.{number_of}
 use Rattle.day_rules.specs.declared.fault.LedgerFault.{LedgerFault}
 use Rattle.day_rules.specs.declared.fault.LedgerFault.TheVariants.{Message, Resting, Absent, Excess, Repeated, Unmatched, Broken, Full, Closed}
 

@@ -17,7 +17,7 @@ module _ {X : Type 0} (key : X → ℕ) where
   absent_none k xs e = absent-unheld key k xs (ap is_some e)
 
   -- what is found under a key has that key, and is one of the list
-  found-key : (k : ℕ) (xs : List X) (x : X) → lookup key k xs ≡ Some x → key x ≡ k
+  pub found-key : (k : ℕ) (xs : List X) (x : X) → lookup key k xs ≡ Some x → key x ≡ k
   found-key k [] x e = cc
   found-key k (y ∷ ys) x e =
       ⊎_elim
@@ -25,7 +25,7 @@ module _ {X : Type 0} (key : X → ℕ) where
       (λ h. found-key k ys x (sym (lookup-later key k y ys h) ∙ e))
       (cases_eq (key y) k)
 
-  found-each : (P : X → Type 0) (k : ℕ) (xs : List X) (x : X) → Each P xs → lookup key k xs ≡ Some x → P x
+  pub found-each : (P : X → Type 0) (k : ℕ) (xs : List X) (x : X) → Each P xs → lookup key k xs ≡ Some x → P x
   found-each P k [] x h e = cc
   found-each P k (y ∷ ys) x h e =
       ⊎_elim
@@ -33,12 +33,12 @@ module _ {X : Type 0} (key : X → ℕ) where
       (λ m. found-each P k ys x h.1 (sym (lookup-later key k y ys m) ∙ e))
       (cases_eq (key y) k)
 
-  each-replaced : (P : X → Type 0) (r : X) (xs : List X) → P r → Each P xs → Each P (replaced key r xs)
+  pub each-replaced : (P : X → Type 0) (r : X) (xs : List X) → P r → Each P xs → Each P (replaced key r xs)
   each-replaced P r [] p h = tt
   each-replaced P r (x ∷ xs) p h =
       ⊎_elim (λ e. rw (eq-eqb (key x) (key r) e) (p, h.1)) (λ e. rw (ne_eqb (key x) (key r) e) (h.0, each-replaced P r xs p h.1)) (cases_eq (key x) (key r))
 
-  rising-replaced : (r : X) (xs : List X) → Rising key xs → Rising key (replaced key r xs)
+  pub rising-replaced : (r : X) (xs : List X) → Rising key xs → Rising key (replaced key r xs)
   rising-replaced r [] h = tt
   rising-replaced r (x ∷ xs) h =
       ⊎_elim
@@ -53,17 +53,17 @@ module _ {X : Type 0} (key : X → ℕ) where
       (cases_lt (key x) (key r))))
       (cases_eq (key x) (key r))
 
-  length-replaced : (r : X) (xs : List X) → length (replaced key r xs) ≡ length xs
+  pub length-replaced : (r : X) (xs : List X) → length (replaced key r xs) ≡ length xs
   length-replaced r [] = refl
   length-replaced r (x ∷ xs) =
       ⊎_elim (λ e. rw (eq-eqb (key x) (key r) e) refl) (λ e. rw (ne_eqb (key x) (key r) e) (ap suc (length-replaced r xs))) (cases_eq (key x) (key r))
 
-  each-without : (P : X → Type 0) (k : ℕ) (xs : List X) → Each P xs → Each P (without key k xs)
+  pub each-without : (P : X → Type 0) (k : ℕ) (xs : List X) → Each P xs → Each P (without key k xs)
   each-without P k [] h = tt
   each-without P k (x ∷ xs) h =
       ⊎_elim (λ e. rw (eq-eqb (key x) k e) h.1) (λ e. rw (ne_eqb (key x) k e) (h.0, each-without P k xs h.1)) (cases_eq (key x) k)
 
-  rising-without : (k : ℕ) (xs : List X) → Rising key xs → Rising key (without key k xs)
+  pub rising-without : (k : ℕ) (xs : List X) → Rising key xs → Rising key (without key k xs)
   rising-without k [] h = tt
   rising-without k (x ∷ xs) h =
       ⊎_elim
@@ -71,7 +71,7 @@ module _ {X : Type 0} (key : X → ℕ) where
       (λ e. rw (ne_eqb (key x) k e) (each-without (λ y. key x < key y) k xs h.0, rising-without k xs h.1))
       (cases_eq (key x) k)
 
-  lookup-gone : (k : ℕ) (xs : List X) → Rising key xs → lookup key k (without key k xs) ≡ None
+  pub lookup-gone : (k : ℕ) (xs : List X) → Rising key xs → lookup key k (without key k xs) ≡ None
   lookup-gone k [] h = refl
   lookup-gone k (x ∷ xs) h =
       ⊎_elim
@@ -80,7 +80,7 @@ module _ {X : Type 0} (key : X → ℕ) where
       (cases_eq (key x) k)
 
   -- a record that is picked is found no more
-  lookup-swept : (p : X → Bool) (x : X) (xs : List X) → Rising key xs → lookup key (key x) xs ≡ Some x → p x ≡ true → lookup key (key x) (others p xs) ≡ None
+  pub lookup-swept : (p : X → Bool) (x : X) (xs : List X) → Rising key xs → lookup key (key x) xs ≡ Some x → p x ≡ true → lookup key (key x) (others p xs) ≡ None
   lookup-swept p x [] h e t = refl
   lookup-swept p x (y ∷ ys) h e t =
       ⊎_elim

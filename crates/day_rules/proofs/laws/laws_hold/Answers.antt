@@ -1,6 +1,5 @@
-use Rattle.day_rules.specs.Laws.{EveryLog}
-use Rattle.day_rules.proofs.Standing.{Stands}
+use Rattle.day_rules.proofs.Logs.{every_log}
 use Rattle.day_rules.proofs.laws.laws_hold.Goals as goal
 
 pub returns : goal.returns
-returns c = ?
+returns c = every_log

@@ -1,0 +1,104 @@
+-- Every log adds up, as what it stands for does.
+use Rattle.std.proofs.Common.{◌≡◌, ℕ, ◌≤◌, cond, leb, List, [], ◌∷◌, Some, None, Ok, Err, Option, Result, refl, sym, ◌∙◌, arith}
+use Rattle.std.proofs.lemmas.Bool.{leb-false}
+use Rattle.std.proofs.lemmas.Bool.Decides.{nat_tests}
+use Rattle.messages.specs.declared.fault.MessageFault.{MessageFault}
+use Rattle.messages.specs.declared.message.Message.{Message}
+use Rattle.messages.specs.Telling.{line_message}
+use Rattle.records.specs.declared.order.Order.{Order}
+use Rattle.records.specs.declared.execution.Execution.{Execution}
+use Rattle.records.specs.declared.symbol_row.SymbolRow.{SymbolRow}
+use Rattle.records.specs.Keys.{execution_key, row_worth}
+use Rattle.store.specs.Lists.{lookup}
+use Rattle.book.specs.Books.{sum}
+use Rattle.day_rules.specs.declared.fault.LedgerFault.{LedgerFault}
+use Rattle.day_rules.specs.Days.{Day}
+use Rattle.day_rules.specs.Events.{event_of}
+use Rattle.day_rules.specs.Laws.{IsLeft, shares_of, volume_in, value_in, EveryLog}
+use Rattle.day_rules.specs.Log.{Log, IsOpening, Logged, told, asked}
+use Rattle.day_rules.specs.Rows.{execution_worth}
+use Rattle.day_rules.specs.Rules.{order_in, row_in, allowed, permitted, outcome, after, counted, or_refused, or_same, message_answer, message_after, answer, next}
+use Rattle.day_rules.specs.Words.{History, history, fills, counts_for, traded}
+use Rattle.day_rules.proofs.Depths.{resting}
+use Rattle.day_rules.proofs.Fits.{line-fits}
+use Rattle.day_rules.proofs.Standing.{OrderStands, broken_times, unless_broken, unless_marked, if_of, in_row, Stands}
+use Rattle.day_rules.proofs.Stepping.{passed, few_orders, step}
+use Rattle.day_rules.proofs.Sums.{sum-same, sum-those, each-all}
+
+-- What a day stands for adds up.
+
+left_of : (h : History) (id : ℕ) (x : Option Order) → OrderStands h id x → IsLeft h id (shares_of x)
+left_of h id None l = l
+left_of h id (Some o) r = let clear = r.no_clear in rw r.last ((λ e. cc), (λ e. r.left))
+
+volume_in_row : (x : Option SymbolRow) → volume_in x ≡ in_row (λ r. r.volume) x
+volume_in_row None = refl
+volume_in_row (Some r) = refl
+
+value_in_row : (x : Option SymbolRow) → value_in x ≡ in_row row_worth x
+value_in_row None = refl
+value_in_row (Some r) = refl
+
+once : (x : Option Execution) → broken_times x ≤ 1
+once None = omega arith
+once (Some e) = grind (arith, nat_tests)
+
+module _ (h : History) (d : Day) (st : Stands h d) where
+  counted_so : (w : Execution → ℕ) (s : ℕ) (e : Execution) → cond (counts_for s h e) (w e) 0 ≡ unless_broken (if_of w s) h e
+  counted_so w s e = grind (arith, nat_tests)
+
+  traded-sum : (w : Execution → ℕ) (s : ℕ) → sum w (traded s h) ≡ sum (unless_marked (if_of w s)) d.executions.rows
+  traded-sum w s =
+      sum-those w (counts_for s h) (fills h)
+      ∙ sum-same (λ e. cond (counts_for s h e) (w e) 0) (unless_broken (if_of w s) h) (fills h) (each-all _ (counted_so w s) (fills h))
+      ∙ st.fills.same (if_of w s)
+
+-- What is logged, a day stands for.
+
+opened : (d : Day) → IsOpening d → Stands [] d
+opened d o =
+    let none = o.accepted in
+    let limit = o.day_limit in
+    record {
+      count = none;
+      day_limit = limit;
+      within = omega arith;
+      orders = rw o.orders (record { rising = tt; narrow = tt; count = omega arith; each = λ id. refl; balance = λ s. refl });
+      fills = rw o.executions (record { rising = tt; narrow = tt; count = omega arith; marks = λ x. refl; same = λ w. refl });
+      rows = rw (o.executions, o.symbols) (record { rising = tt; narrow = tt; volume = λ s. refl; value = λ s. refl });
+    }
+
+module _ (line : List ℕ) (log : Log) (d : Day) (st : Stands (history log) d) where
+  by_event : (m : Message) → line_message line ≡ Ok m → (p : Result (Unit {0}) LedgerFault) → permitted (event_of m) d ≡ p
+      → Stands (history (told line (or_refused p (outcome (event_of m) d)) ∷ log)) (or_same p (counted (after (event_of m) d)) d)
+  by_event m is (Err f) permits = st
+  by_event m is (Ok u) permits =
+      let ok = passed (leb d.day_limit d.accepted) _ (allowed (event_of m) d) permits in
+      rw is (step (history log) d st (leb-false d.day_limit d.accepted ok.0) (event_of m) (line-fits line m is) ok.1)
+
+  by_line : (r : Result Message MessageFault) → line_message line ≡ r → Stands (history (told line (message_answer r d) ∷ log)) (message_after r d)
+  by_line (Ok m) is = by_event m is (permitted (event_of m) d) refl
+  by_line (Err f) is = st
+
+  line_stands : Stands (history (told line (answer line d) ∷ log)) (next line d)
+  unfolding answer next
+  line_stands = by_line (line_message line) refl
+
+pub logged_stands : (log : Log) (d : Day) → Logged log d → Stands (history log) d
+logged_stands [] d l = opened d l
+logged_stands (told line answered ∷ log) d l = rw (l.2, l.3) (line_stands line log l.0 (logged_stands log l.0 l.1))
+logged_stands (asked q replied ∷ log) d l = logged_stands log d l.0
+
+pub every_log : EveryLog
+every_log log d l =
+    let st = logged_stands log d l in
+    let os = st.orders in
+    record {
+      shares_balance = λ s. let b = os.balance s in let r = resting d.orders.rows os.narrow (few_orders (history log) d st) s in omega arith;
+      orders_add_up = λ id. left_of (history log) id (order_in id d) (os.each id);
+      turnover_adds_up = λ s. (
+        volume_in_row (row_in s d) ∙ st.rows.volume s ∙ sym (traded-sum (history log) d st (λ e. e.shares) s),
+        value_in_row (row_in s d) ∙ st.rows.value s ∙ sym (traded-sum (history log) d st execution_worth s),
+      );
+      none_broken_twice = λ x. rw (st.fills.marks x) (once (lookup execution_key x d.executions.rows));
+    }
