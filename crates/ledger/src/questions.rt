@@ -21,6 +21,7 @@ use store::store::Store;
 
 impl<O: Store<Order>, E: Store<Execution>, S: Store<SymbolRow>> Ledger<O, E, S> {
     // The order that rests under an Order ID.
+    #[tactic(auto, using(crate::proofs::Adding::order_left))]
     pub fn order(&self, id: u64) -> Option<Order>
         ensures says { result ≡ order_in id self.now }
         ensures logged { (log : Log) → Logged log self.now → Logged (asked (question.order id) result ∷ log) self.now }
@@ -38,6 +39,7 @@ impl<O: Store<Order>, E: Store<Execution>, S: Store<SymbolRow>> Ledger<O, E, S> 
     }
 
     // What has traded of a symbol.
+    #[tactic(auto, using(crate::proofs::Adding::row_traded))]
     pub fn row(&self, symbol: u64) -> Option<SymbolRow>
         ensures says { result ≡ row_in symbol self.now }
         ensures logged { (log : Log) → Logged log self.now → Logged (asked (question.row symbol) result ∷ log) self.now }
@@ -55,6 +57,7 @@ impl<O: Store<Order>, E: Store<Execution>, S: Store<SymbolRow>> Ledger<O, E, S> 
     }
 
     // What rests of a symbol on a side. With what rests on the other side, its shares are what the log's add up to.
+    #[tactic(auto, using(crate::proofs::Adding::book_balances))]
     pub fn book(&self, symbol: u64, side: Side) -> Book
         ensures says { result ≡ book_in symbol side self.now }
         ensures best { IsBest side (map (λ o. o.price) (those (rests_on symbol side) self.now.orders.rows)) result.best }
