@@ -1,7 +1,9 @@
-// What each message does.
+// What each message does. Its checks leave the stores nothing to refuse.
 ghost use Rattle.std.specs.Prelude.{◌≡◌, ◌≤◌, Some};
-ghost use Rattle.day_rules.specs.Events.{clears, adds, executes, cancels, trades, breaks};
-ghost use Rattle.day_rules.specs.Rules.{allowed, outcome, after, or_refused, or_same, reduced, filled, row_after, leaving};
+ghost use Rattle.messages.specs.declared.message.Message.TheVariants.{OrderExecuted, OrderCancel};
+ghost use Rattle.day_rules.specs.Events.{clears, adds, trades, breaks, event_of};
+ghost use Rattle.day_rules.specs.Rules.{outcome, after, reduced, filled, row_after, leaving};
+ghost use Rattle.ledger.specs.Steps.{answered, followed};
 
 use crate::ledger::Ledger;
 use crate::rows::{new_row, with_execution, without_execution};
@@ -29,8 +31,8 @@ impl<O: Store<Order>, E: Store<Execution>, S: Store<SymbolRow>> Ledger<O, E, S> 
 
     // An order comes to rest.
     pub(crate) fn add(&mut self, order: Order) -> Result<Outcome, LedgerFault>
-        ensures says { result ≡ or_refused (allowed (adds order) self.old) (outcome (adds order) self.old) }
-        ensures leaves { self.new ≡ or_same (allowed (adds order) self.old) (after (adds order) self.old) self.old }
+        ensures says { result ≡ answered (adds order) self.old }
+        ensures leaves { self.new ≡ followed (adds order) self.old }
     {
         self.may_rest(&order)?;
         let _ = self.orders.insert(order);
@@ -43,8 +45,8 @@ impl<O: Store<Order>, E: Store<Execution>, S: Store<SymbolRow>> Ledger<O, E, S> 
 
     // Shares of an order are executed, at the price that the order has now.
     pub(crate) fn execute(&mut self, said: &record::Execution) -> Result<Outcome, LedgerFault>
-        ensures says { result ≡ or_refused (allowed (executes said.now.order said.now.shares said.now.execution) self.old) (outcome (executes said.now.order said.now.shares said.now.execution) self.old) }
-        ensures leaves { self.new ≡ or_same (allowed (executes said.now.order said.now.shares said.now.execution) self.old) (after (executes said.now.order said.now.shares said.now.execution) self.old) self.old }
+        ensures says { result ≡ answered (event_of (OrderExecuted said.now)) self.old }
+        ensures leaves { self.new ≡ followed (event_of (OrderExecuted said.now)) self.old }
     {
         let order = self.shares_at_hand(said.order, said.shares)?;
         self.may_trade(said.execution, order.symbol)?;
@@ -61,8 +63,8 @@ impl<O: Store<Order>, E: Store<Execution>, S: Store<SymbolRow>> Ledger<O, E, S> 
 
     // Shares of an order are cancelled.
     pub(crate) fn cancel(&mut self, said: &record::Cancel) -> Result<Outcome, LedgerFault>
-        ensures says { result ≡ or_refused (allowed (cancels said.now.order said.now.shares) self.old) (outcome (cancels said.now.order said.now.shares) self.old) }
-        ensures leaves { self.new ≡ or_same (allowed (cancels said.now.order said.now.shares) self.old) (after (cancels said.now.order said.now.shares) self.old) self.old }
+        ensures says { result ≡ answered (event_of (OrderCancel said.now)) self.old }
+        ensures leaves { self.new ≡ followed (event_of (OrderCancel said.now)) self.old }
     {
         let order = self.shares_at_hand(said.order, said.shares)?;
         Ok(self.reduce(order, said.shares))
@@ -70,8 +72,8 @@ impl<O: Store<Order>, E: Store<Execution>, S: Store<SymbolRow>> Ledger<O, E, S> 
 
     // Shares are traded; no order is looked up, whatever rests under the Order ID.
     pub(crate) fn trade(&mut self, execution: Execution) -> Result<Outcome, LedgerFault>
-        ensures says { result ≡ or_refused (allowed (trades execution) self.old) (outcome (trades execution) self.old) }
-        ensures leaves { self.new ≡ or_same (allowed (trades execution) self.old) (after (trades execution) self.old) self.old }
+        ensures says { result ≡ answered (trades execution) self.old }
+        ensures leaves { self.new ≡ followed (trades execution) self.old }
     {
         self.may_trade(execution.id, execution.symbol)?;
         let shares = self.fill(execution);
@@ -80,14 +82,15 @@ impl<O: Store<Order>, E: Store<Execution>, S: Store<SymbolRow>> Ledger<O, E, S> 
 
     // An execution or a trade is broken; it is kept, marked as broken.
     pub(crate) fn break_execution(&mut self, id: u64) -> Result<Outcome, LedgerFault>
-        ensures says { result ≡ or_refused (allowed (breaks id) self.old) (outcome (breaks id) self.old) }
-        ensures leaves { self.new ≡ or_same (allowed (breaks id) self.old) (after (breaks id) self.old) self.old }
+        ensures says { result ≡ answered (breaks id) self.old }
+        ensures leaves { self.new ≡ followed (breaks id) self.old }
     {
         let execution = self.unbroken(id)?;
-        let _ = self.executions.replace(Execution {
+        let marked = Execution {
             broken: true,
             ..execution
-        });
+        };
+        let _ = self.executions.replace(marked);
         let Some(row) = self.symbols.find(execution.symbol) else {
             return Ok(Outcome {
                 orders: 0,

@@ -3,7 +3,8 @@ ghost use Rattle.std.specs.Prelude.{◌≡◌, List, ◌∷◌, OnErr};
 ghost use Rattle.day_rules.specs.Events.{event_of};
 ghost use Rattle.day_rules.specs.Laws.{SharesBalance, OrdersAddUp, TurnoverAddsUp, NoneBrokenTwice};
 ghost use Rattle.day_rules.specs.Log.{Log, Logged, told};
-ghost use Rattle.day_rules.specs.Rules.{allowed, outcome, after, or_refused, or_same, event_answer, event_after, answer, next};
+ghost use Rattle.day_rules.specs.Rules.{event_answer, event_after, answer, next};
+ghost use Rattle.ledger.specs.Steps.{answered, followed};
 
 use crate::ledger::Ledger;
 use crate::making::{order_of, trade_of};
@@ -57,8 +58,8 @@ impl<O: Store<Order>, E: Store<Execution>, S: Store<SymbolRow>> Ledger<O, E, S> 
 
     // The short and the long form of a message do the same.
     fn apply(&mut self, message: &Message) -> Result<Outcome, LedgerFault>
-        ensures says { result ≡ or_refused (allowed (event_of message.now) self.old) (outcome (event_of message.now) self.old) }
-        ensures leaves { self.new ≡ or_same (allowed (event_of message.now) self.old) (after (event_of message.now) self.old) self.old }
+        ensures says { result ≡ answered (event_of message.now) self.old }
+        ensures leaves { self.new ≡ followed (event_of message.now) self.old }
     {
         match message {
             Message::SymbolClear(clear) => Ok(self.clear(clear.symbol)),
