@@ -46,10 +46,13 @@ next-of : {X : Type 0} (xs : List X) (n : ℕ) (d : X) → n < length xs → dro
 next-of xs n d l = simp unary_clauses (drop-cons xs n d l)
 
 -- Any log goes on with the lines and their answers.
-pub logged-on : (log : Log) (d : Day) (lines : List (List ℕ)) (places : Answers) → Logged log d → Logged (log_on log lines (answers_on d lines places)) (day_on d lines places)
+logged-on : (log : Log) (d : Day) (lines : List (List ℕ)) (places : Answers) → Logged log d → Logged (log_on log lines (answers_on d lines places)) (day_on d lines places)
 logged-on log d [] places h = h
 logged-on log d (x ∷ lines) [] h = h
 logged-on log d (x ∷ lines) (r ∷ places) h = logged-on (told x (answer x d) ∷ log) (next x d) lines places (d, h, refl, refl)
+
+pub logged_over : (log : Log) (d e : Day) (lines : List (List ℕ)) (places is : Answers) → is ≡ answers_on d lines places → e ≡ day_on d lines places → Logged log d → Logged (log_on log lines is) e
+logged_over log d e lines places is answers leaves h = rw (answers, leaves) (logged-on log d lines places h)
 
 module _ {X : Type 0} (f : X → List ℕ) (start : Day) (ls : List X) (default : X) (places : Answers) where
   line-at : (n : ℕ) → n < length ls → drop n (map f ls) ≡ f (get_or ls n default) ∷ drop (n + 1) (map f ls)

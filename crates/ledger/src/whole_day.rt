@@ -14,10 +14,18 @@ use store::store::Store;
 
 impl<O: Store<Order>, E: Store<Execution>, S: Store<SymbolRow>> Ledger<O, E, S> {
     // Takes the lines one after the other, as many as there is room for answers; each answer goes to the place of its line.
+    #[tactic(auto, using(crate::proofs::Running::logged_over))]
     pub fn put_all(&mut self, lines: &[&[u8]], answers: &mut [Result<Outcome, LedgerFault>])
         ensures answers { answers.new ≡ answers_on self.old (map (λ line. line.now) lines.now) answers.old }
         ensures leaves { self.new ≡ day_on self.old (map (λ line. line.now) lines.now) answers.old }
         ensures logged { (log : Log) → Logged log self.old → Logged (log_on log (map (λ line. line.now) lines.now) answers.new) self.new }
+    {
+        self.put_each(lines, answers);
+    }
+
+    fn put_each(&mut self, lines: &[&[u8]], answers: &mut [Result<Outcome, LedgerFault>])
+        ensures answers { answers.new ≡ answers_on self.old (map (λ line. line.now) lines.now) answers.old }
+        ensures leaves { self.new ≡ day_on self.old (map (λ line. line.now) lines.now) answers.old }
     {
         let most = lines.len().min(answers.len());
         for (place, answer) in answers[..most].iter_mut().enumerate() {
@@ -27,6 +35,7 @@ impl<O: Store<Order>, E: Store<Execution>, S: Store<SymbolRow>> Ledger<O, E, S> 
 }
 
 // Keeps a day: opens a ledger over three stores, whatever they hold, and puts the lines to it.
+#[tactic(auto, using(day_rules::proofs::Logs::every_log))]
 pub fn keep_day<O: Store<Order>, E: Store<Execution>, S: Store<SymbolRow>>(
     stores: (O, E, S),
     day_limit: u64,

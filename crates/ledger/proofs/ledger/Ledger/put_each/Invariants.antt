@@ -1,6 +1,6 @@
 use Rattle.std.proofs.Common.{map, take}
 use Rattle.ledger.proofs.Running.{Running}
-use Rattle.ledger.proofs.ledger.Ledger.put_all.Given as goal
+use Rattle.ledger.proofs.ledger.Ledger.put_each.Given as goal
 
 abbrev pub invariant-loop-place : goal.invariant-loop-place
 invariant-loop-place g l = Running l.fn.self (map (λ line. line.now) l.lines) (take l.most l.fn.answers) l.place l.self l.answer-items
