@@ -1,5 +1,6 @@
 // Many lines in one call, and a whole day.
 ghost use Rattle.std.specs.Prelude.{◌≡◌, map};
+ghost use Rattle.day_rules.specs.Days.{opening};
 ghost use Rattle.day_rules.specs.Laws.{LogLaws};
 ghost use Rattle.day_rules.specs.Log.{Log, Logged};
 ghost use Rattle.ledger.specs.Runs.{answers_on, day_on, log_on, log_of};
@@ -42,6 +43,8 @@ pub fn keep_day<O: Store<Order>, E: Store<Execution>, S: Store<SymbolRow>>(
     lines: &[&[u8]],
     answers: &mut [Result<Outcome, LedgerFault>],
 ) -> Ledger<O, E, S>
+    ensures answers { answers.new ≡ answers_on (opening (O.Store.model stores.0) (E.Store.model stores.1) (S.Store.model stores.2) day_limit) (map (λ line. line.now) lines.now) answers.old }
+    ensures leaves { result ≡ day_on (opening (O.Store.model stores.0) (E.Store.model stores.1) (S.Store.model stores.2) day_limit) (map (λ line. line.now) lines.now) answers.old }
     ensures logged { Logged (log_of (map (λ line. line.now) lines.now) answers.new) result }
     ensures laws { LogLaws (log_of (map (λ line. line.now) lines.now) answers.new) result }
 {
