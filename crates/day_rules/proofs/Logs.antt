@@ -1,6 +1,6 @@
 -- Every log adds up, as what it stands for does.
-use Rattle.std.proofs.Common.{◌≡◌, ℕ, ◌≤◌, cond, leb, List, [], ◌∷◌, Some, None, Ok, Err, Option, Result, refl, sym, ◌∙◌, arith}
-use Rattle.std.proofs.lemmas.Bool.{leb-false}
+use Rattle.std.proofs.Common.{◌≡◌, ℕ, ◌≤◌, cond, eqb, leb, true, false, List, [], ◌∷◌, Some, None, Ok, Err, Option, Result, refl, sym, ◌∙◌, ⊎_elim, arith}
+use Rattle.std.proofs.lemmas.Bool.{cases_Bool, eqb-true, leb-false}
 use Rattle.std.proofs.lemmas.Bool.Decides.{nat_tests}
 use Rattle.messages.specs.declared.fault.MessageFault.{MessageFault}
 use Rattle.messages.specs.declared.message.Message.{Message}
@@ -8,28 +8,37 @@ use Rattle.messages.specs.Telling.{line_message}
 use Rattle.records.specs.declared.order.Order.{Order}
 use Rattle.records.specs.declared.execution.Execution.{Execution}
 use Rattle.records.specs.declared.symbol_row.SymbolRow.{SymbolRow}
-use Rattle.records.specs.Keys.{execution_key, row_worth}
+use Rattle.records.specs.Keys.{order_key, execution_key, row_worth}
 use Rattle.store.specs.Lists.{lookup}
+use Rattle.store.proofs.Ruling.{found-each}
 use Rattle.book.specs.Books.{sum}
 use Rattle.day_rules.specs.declared.fault.LedgerFault.{LedgerFault}
 use Rattle.day_rules.specs.Days.{Day}
 use Rattle.day_rules.specs.Events.{event_of}
-use Rattle.day_rules.specs.Laws.{IsLeft, shares_of, volume_in, value_in, EveryLog}
+use Rattle.day_rules.specs.Laws.{IsLeftOf, shares_of, volume_in, value_in, EveryLog}
 use Rattle.day_rules.specs.Log.{Log, IsOpening, Logged, told, asked}
 use Rattle.day_rules.specs.Rows.{execution_worth}
-use Rattle.day_rules.specs.Rules.{order_in, row_in, allowed, permitted, outcome, after, counted, or_refused, or_same, message_answer, message_after, answer, next}
-use Rattle.day_rules.specs.Words.{History, history, fills, counts_for, traded}
+use Rattle.day_rules.specs.Rules.{less_shares, row_in, allowed, permitted, outcome, after, counted, or_refused, or_same, message_answer, message_after, answer, next}
+use Rattle.day_rules.specs.Words.{History, history, last_add, since_add, clear_among, taken_off, left_of_add, fills, counts_for, traded}
 use Rattle.day_rules.proofs.Depths.{resting}
 use Rattle.day_rules.proofs.Fits.{line-fits}
-use Rattle.day_rules.proofs.Standing.{OrderStands, broken_times, unless_broken, unless_marked, if_of, in_row, Stands}
+use Rattle.day_rules.proofs.Standing.{NarrowOrder, broken_times, unless_broken, unless_marked, if_of, in_row, Stands}
 use Rattle.day_rules.proofs.Stepping.{passed, few_orders, step}
 use Rattle.day_rules.proofs.Sums.{sum-same, sum-those, each-all}
 
 -- What a day stands for adds up.
 
-left_of : (h : History) (id : ℕ) (x : Option Order) → OrderStands h id x → IsLeft h id (shares_of x)
-left_of h id None l = l
-left_of h id (Some o) r = let clear = r.no_clear in rw r.last ((λ e. cc), (λ e. r.left))
+-- an order that is left as the log says adds up
+left_over : (last : Option Order) (since : History) (id : ℕ) → ((o : Order) → left_of_add last since id ≡ Some o → 1 ≤ o.shares) → IsLeftOf last since id (shares_of (left_of_add last since id))
+left_over None since id some = refl
+left_over (Some o) since id some =
+    ⊎_elim
+    (λ t. rw t ((λ e. refl), (λ e. cc)))
+    (λ t. rw t (⊎_elim
+    (λ u. rw u ((λ e. cc), (λ e. let same = eqb-true (taken_off id since) o.shares u in omega arith)))
+    (λ u. rw u ((λ e. cc), (λ e. let l = some (less_shares (taken_off id since) o) (rw (t, u) refl) in omega arith)))
+    (cases_Bool (eqb (taken_off id since) o.shares))))
+    (cases_Bool (clear_among o.symbol since))
 
 volume_in_row : (x : Option SymbolRow) → volume_in x ≡ in_row (λ r. r.volume) x
 volume_in_row None = refl
@@ -95,10 +104,15 @@ every_log log d l =
     let os = st.orders in
     record {
       shares_balance = λ s. let b = os.balance s in let r = resting d.orders.rows os.narrow (few_orders (history log) d st) s in omega arith;
-      orders_add_up = λ id. left_of (history log) id (order_in id d) (os.each id);
+      orders_add_up = λ id.
+          rw (os.each id)
+          (left_over (last_add id (history log)) (since_add id (history log)) id
+          (λ o is. (found-each order_key NarrowOrder id d.orders.rows o os.narrow (os.each id ∙ is)).least));
       turnover_adds_up = λ s. (
         volume_in_row (row_in s d) ∙ st.rows.volume s ∙ sym (traded-sum (history log) d st (λ e. e.shares) s),
         value_in_row (row_in s d) ∙ st.rows.value s ∙ sym (traded-sum (history log) d st execution_worth s),
       );
       none_broken_twice = λ x. rw (st.fills.marks x) (once (lookup execution_key x d.executions.rows));
+      orders_as_added = os.each;
+      accepted_are_counted = st.count;
     }

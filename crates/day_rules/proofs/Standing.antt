@@ -11,14 +11,15 @@ use Rattle.day_rules.specs.Days.{Day, greatest_limit}
 use Rattle.day_rules.specs.Events.{Event, clears, adds, executes, cancels, trades, breaks}
 use Rattle.day_rules.specs.Laws.{IsLeft}
 use Rattle.day_rules.specs.Rows.{execution_worth}
-use Rattle.day_rules.specs.Words.{History, Accepted, last_add, since_add, clear_among, taken_off, shares_added, shares_taken, shares_cleared, fills, times_broken}
+use Rattle.day_rules.specs.Words.{History, Accepted, last_add, since_add, clear_among, taken_off, shares_added, shares_taken, shares_cleared, order_by, fills, times_broken}
 
--- as a line can give it: an ID and a symbol of 64 bits, ten digits of a price, six of shares
+-- as a line can give it: an ID and a symbol of 64 bits, ten digits of a price, six of shares, and at least one share
 pub record NarrowOrder (o : Order) : Type 0 where
   pub id : o.id < 2 ^ 64
   pub symbol : o.symbol < 2 ^ 64
   pub price : o.price ≤ 9999999999
   pub shares : o.shares ≤ 999999
+  pub least : 1 ≤ o.shares
 
 pub record NarrowFill (e : Execution) : Type 0 where
   pub id : e.id < 2 ^ 64
@@ -45,20 +46,6 @@ own_key n l = omega arith
 
 -- Orders.
 
--- an order that rests: as its last accepted add had it, less what was taken off since
-pub record Resting (h : History) (id : ℕ) (o : Order) : Type 0 where
-  pub added : Order
-  pub last : last_add id h ≡ Some added
-  pub same_id : o.id ≡ id
-  pub same_symbol : added.symbol ≡ o.symbol
-  pub same_price : added.price ≡ o.price
-  pub no_clear : clear_among added.symbol (since_add id h) ≡ false
-  pub left : o.shares + taken_off id (since_add id h) ≡ added.shares
-
-abbrev pub OrderStands : History → ℕ → Option Order → Type 0
-OrderStands h id None = IsLeft h id 0
-OrderStands h id (Some o) = Resting h id o
-
 -- an order's shares, if it is of the symbol
 abbrev pub shares_if : ℕ → Order → ℕ
 shares_if s o = cond (eqb o.symbol s) o.shares 0
@@ -67,7 +54,7 @@ pub record OrdersStand (h : History) (os : List Order) : Type 0 where
   pub rising : Rising order_key os
   pub narrow : Each NarrowOrder os
   pub count : length os ≤ length h
-  pub each : (id : ℕ) → OrderStands h id (lookup order_key id os)
+  pub each : (id : ℕ) → lookup order_key id os ≡ order_by id h
   pub balance : (s : ℕ) → shares_added s h ≡ sum (shares_if s) os + shares_taken s h + shares_cleared s h
 
 -- Executions.

@@ -1,6 +1,6 @@
 -- Each accepted message leaves a day that the log stands for.
-use Rattle.std.proofs.Common.{◌≡◌, ℕ, ◌<◌, ◌≤◌, Bool, true, false, cond, eqb, ltb, ◌∷◌, length, Some, None, Ok, Err, Option, Result, refl, sym, subst, arith}
-use Rattle.std.proofs.lemmas.Bool.{cond_both, eqb-true, ltb-false}
+use Rattle.std.proofs.Common.{◌≡◌, ℕ, ◌<◌, ◌≤◌, Bool, true, false, cond, eqb, ltb, ◌∷◌, length, Some, None, Ok, Err, Option, Result, refl, sym, ap, ◌∙◌, arith}
+use Rattle.std.proofs.lemmas.Bool.{cond_both, eqb-true, eqb-false, ltb-false}
 use Rattle.records.specs.declared.order.Order.{Order}
 use Rattle.records.specs.declared.execution.Execution.{Execution}
 use Rattle.records.specs.Keys.{order_key, execution_key}
@@ -13,8 +13,8 @@ use Rattle.day_rules.specs.Days.{Day, with_orders, greatest_limit}
 use Rattle.day_rules.specs.Events.{Event, clears, adds, executes, cancels, trades, breaks}
 use Rattle.day_rules.specs.Rules.{order_in, execution_in, is_full, lacks_row, may_rest, shares_at_hand, may_trade, may_execute, may_cancel, unbroken, may_break, allowed, less_shares, reduced, fill_of, filled, executed, cancelled, broken, after, cleared, outcome, counted}
 use Rattle.day_rules.specs.Words.{History, fills, then_fill, breaks_of}
-use Rattle.day_rules.proofs.Standing.{NarrowFill, NarrowOrder, EventFits, Resting, OrderStands, OrdersStand, FillsStand, RowsStand, Stands, said, own_key}
-use Rattle.day_rules.proofs.Orders.{Takes, Spares, add-stands, lessened, emptied, clear-stands, spare-stands}
+use Rattle.day_rules.proofs.Standing.{NarrowFill, NarrowOrder, EventFits, OrdersStand, FillsStand, RowsStand, Stands, said, own_key}
+use Rattle.day_rules.proofs.Orders.{Resting, rests-by, Takes, Spares, add-stands, lessened, emptied, clear-stands, spare-stands}
 use Rattle.day_rules.proofs.Fills.{pass-stands, fill-stands, break-stands}
 use Rattle.day_rules.proofs.Rows.{fill_rows, add_rows, break_rows}
 use Rattle.day_rules.proofs.Depths.{clear_reports}
@@ -96,7 +96,7 @@ module _ (h : History) (d : Day) (st : Stands h d) (room : d.accepted < d.day_li
         let l = ltb-false o.shares n enough in
         cond_both (eqb o.shares n) (removing order_key o.id d.orders) (replacing order_key (less_shares n o) d.orders) (λ m. OrdersStand (said e answered ∷ h) m.rows)
         (λ t. emptied h d.orders.rows st.orders answered i n o e takes found l (sym (eqb-true o.shares n t)))
-        (λ t. lessened h d.orders.rows st.orders answered i n o e takes found l)
+        (λ t. lessened h d.orders.rows st.orders answered i n o e takes found l (λ m. eqb-false o.shares n t (sym m)))
 
   at_hand : (b : Bool) (f : LedgerFault) (o : Order) (x : ℕ) → may_execute x d (cond b (Err f) (Ok o)) ≡ Ok tt → (b ≡ false) × (may_trade x o.symbol d ≡ Ok tt)
   at_hand true f o x e = cc
@@ -107,12 +107,12 @@ module _ (h : History) (d : Day) (st : Stands h d) (room : d.accepted < d.day_li
   after_execution i n x answered fits None is ok = cc
   after_execution i n x answered fits (Some o) is ok =
       let a = at_hand (ltb o.shares n) _ o x ok in
-      let rests : Resting h i o = subst (OrderStands h i) is (st.orders.each i) in
+      let rests : Resting h i o = rests-by h i o (sym (st.orders.each i) ∙ is) in
       let narrow = found-each order_key NarrowOrder i d.orders.rows o st.orders.narrow is in
       after_fill (executes i n x) answered (reduced n o d).orders (fill_of x n o)
       (few_left i n o (executes i n x) (taken-by-execution i n x) answered is a.0)
       (λ y. refl)
-      (rw rests.last (rw (rests.same_symbol, rests.same_price) refl))
+      (rw rests.last (ap (λ p. fill_of x n p ∷ fills h) (sym rests.less)))
       (record { id = fits.2; symbol = narrow.symbol; price = narrow.price; shares = fits.1 })
       refl
       a.1
