@@ -73,7 +73,7 @@ opened d o =
       day_limit = limit;
       within = omega arith;
       orders = rw o.orders (record { rising = tt; narrow = tt; count = omega arith; each = λ id. refl; balance = λ s. refl });
-      fills = rw o.executions (record { rising = tt; narrow = tt; count = omega arith; marks = λ x. refl; same = λ w. refl });
+      fills = rw o.executions (record { rising = tt; narrow = tt; count = omega arith; each = λ x. record { times = refl; is = refl }; same = λ w. refl });
       rows = rw (o.executions, o.symbols) (record { rising = tt; narrow = tt; volume = λ s. refl; value = λ s. refl });
     }
 
@@ -112,7 +112,8 @@ every_log log d l =
         volume_in_row (row_in s d) ∙ st.rows.volume s ∙ sym (traded-sum (history log) d st (λ e. e.shares) s),
         value_in_row (row_in s d) ∙ st.rows.value s ∙ sym (traded-sum (history log) d st execution_worth s),
       );
-      none_broken_twice = λ x. rw (st.fills.marks x) (once (lookup execution_key x d.executions.rows));
+      none_broken_twice = λ x. rw ((st.fills.each x).times) (once (lookup execution_key x d.executions.rows));
       orders_as_added = os.each;
+      executions_as_accepted = λ x. (st.fills.each x).is;
       accepted_are_counted = st.count;
     }

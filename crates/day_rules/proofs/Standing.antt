@@ -11,7 +11,7 @@ use Rattle.day_rules.specs.Days.{Day, greatest_limit}
 use Rattle.day_rules.specs.Events.{Event, clears, adds, executes, cancels, trades, breaks}
 use Rattle.day_rules.specs.Laws.{IsLeft}
 use Rattle.day_rules.specs.Rows.{execution_worth}
-use Rattle.day_rules.specs.Words.{History, Accepted, last_add, since_add, clear_among, taken_off, shares_added, shares_taken, shares_cleared, order_by, fills, times_broken}
+use Rattle.day_rules.specs.Words.{History, Accepted, last_add, since_add, clear_among, taken_off, shares_added, shares_taken, shares_cleared, order_by, fills, times_broken, execution_by}
 
 -- as a line can give it: an ID and a symbol of 64 bits, ten digits of a price, six of shares, and at least one share
 pub record NarrowOrder (o : Order) : Type 0 where
@@ -64,6 +64,11 @@ abbrev pub broken_times : Option Execution → ℕ
 broken_times None = 0
 broken_times (Some e) = cond e.broken 1 0
 
+-- what is found under an Execution ID is what the log says, broken as often
+pub record Told (h : History) (x : ℕ) (found : Option Execution) : Type 0 where
+  pub times : times_broken x h ≡ broken_times found
+  pub is : found ≡ execution_by x h
+
 -- of an accepted execution or trade, by the log
 abbrev pub unless_broken : (Execution → ℕ) → History → Execution → ℕ
 unless_broken w h e = cond (eqb (times_broken e.id h) 0) (w e) 0
@@ -77,7 +82,7 @@ pub record FillsStand (h : History) (es : List Execution) : Type 0 where
   pub rising : Rising execution_key es
   pub narrow : Each NarrowFill es
   pub count : length es ≤ length h
-  pub marks : (x : ℕ) → times_broken x h ≡ broken_times (lookup execution_key x es)
+  pub each : (x : ℕ) → Told h x (lookup execution_key x es)
   pub same : (w : Execution → ℕ) → sum (unless_broken w h) (fills h) ≡ sum (unless_marked w) es
 
 -- Rows.
