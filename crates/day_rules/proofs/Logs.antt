@@ -1,5 +1,5 @@
 -- Every log adds up, as what it stands for does.
-use Rattle.std.proofs.Common.{◌≡◌, ℕ, ◌≤◌, cond, eqb, leb, true, false, List, [], ◌∷◌, Some, None, Ok, Err, Option, Result, refl, sym, ◌∙◌, ⊎_elim, arith}
+use Rattle.std.proofs.Common.{◌≡◌, ℕ, ◌≤◌, cond, eqb, leb, true, false, List, [], ◌∷◌, Some, None, Ok, Err, Option, Result, refl, sym, ap, ◌∙◌, ⊎_elim, arith}
 use Rattle.std.proofs.lemmas.Bool.{cases_Bool, eqb-true, leb-false}
 use Rattle.std.proofs.lemmas.Bool.Decides.{nat_tests}
 use Rattle.messages.specs.declared.fault.MessageFault.{MessageFault}
@@ -15,14 +15,15 @@ use Rattle.book.specs.Books.{sum}
 use Rattle.day_rules.specs.declared.fault.LedgerFault.{LedgerFault}
 use Rattle.day_rules.specs.Days.{Day}
 use Rattle.day_rules.specs.Events.{event_of}
-use Rattle.day_rules.specs.Laws.{IsLeftOf, shares_of, volume_in, value_in, EveryLog}
+use Rattle.day_rules.specs.Laws.{IsLeftOf, IsTraded, shares_of, volume_in, value_in, EveryLog}
 use Rattle.day_rules.specs.Log.{Log, IsOpening, Logged, told, asked}
-use Rattle.day_rules.specs.Rows.{execution_worth}
+use Rattle.day_rules.specs.Rows.{execution_worth, row_of, row_or_new}
 use Rattle.day_rules.specs.Rules.{less_shares, row_in, allowed, permitted, outcome, after, counted, or_refused, or_same, message_answer, message_after, answer, next}
-use Rattle.day_rules.specs.Words.{History, history, last_add, since_add, clear_among, taken_off, left_of_add, fills, counts_for, traded}
+use Rattle.day_rules.specs.Words.{History, history, last_add, since_add, clear_among, taken_off, left_of_add, fills, counts_for, traded, times_broken, volume_of, value_of, all_traded}
 use Rattle.day_rules.proofs.Depths.{resting}
 use Rattle.day_rules.proofs.Fits.{line-fits}
-use Rattle.day_rules.proofs.Standing.{NarrowOrder, broken_times, unless_broken, unless_marked, if_of, in_row, Stands}
+use Rattle.day_rules.proofs.Standing.{NarrowOrder, broken_times, unless_broken, unless_marked, if_of, stored, row_stored, Stands}
+use Rattle.day_rules.proofs.Rows.{same-row, parted, row-now}
 use Rattle.day_rules.proofs.Stepping.{passed, few_orders, step}
 use Rattle.day_rules.proofs.Sums.{sum-same, sum-those, each-all}
 
@@ -40,13 +41,13 @@ left_over (Some o) since id some =
     (cases_Bool (eqb (taken_off id since) o.shares))))
     (cases_Bool (clear_among o.symbol since))
 
-volume_in_row : (x : Option SymbolRow) → volume_in x ≡ in_row (λ r. r.volume) x
-volume_in_row None = refl
-volume_in_row (Some r) = refl
+volume_in_row : (s : ℕ) (x : Option SymbolRow) → volume_in x ≡ (row_or_new s x).volume
+volume_in_row s None = refl
+volume_in_row s (Some r) = refl
 
-value_in_row : (x : Option SymbolRow) → value_in x ≡ in_row row_worth x
-value_in_row None = refl
-value_in_row (Some r) = refl
+value_in_row : (s : ℕ) (x : Option SymbolRow) → value_in x ≡ row_worth (row_or_new s x)
+value_in_row s None = refl
+value_in_row s (Some r) = refl
 
 once : (x : Option Execution) → broken_times x ≤ 1
 once None = omega arith
@@ -56,11 +57,27 @@ module _ (h : History) (d : Day) (st : Stands h d) where
   counted_so : (w : Execution → ℕ) (s : ℕ) (e : Execution) → cond (counts_for s h e) (w e) 0 ≡ unless_broken (if_of w s) h e
   counted_so w s e = grind (arith, nat_tests)
 
-  traded-sum : (w : Execution → ℕ) (s : ℕ) → sum w (traded s h) ≡ sum (unless_marked (if_of w s)) d.executions.rows
-  traded-sum w s =
-      sum-those w (counts_for s h) (fills h)
+  stored-traded : (w : Execution → ℕ) (s : ℕ) → stored w s d.executions.rows ≡ sum w (traded s h)
+  stored-traded w s =
+      sym
+      (sum-those w (counts_for s h) (fills h)
       ∙ sum-same (λ e. cond (counts_for s h e) (w e) 0) (unless_broken (if_of w s) h) (fills h) (each-all _ (counted_so w s) (fills h))
-      ∙ st.fills.same (if_of w s)
+      ∙ st.fills.same (if_of w s))
+
+  row_by_log : (s : ℕ) → row_stored s d.executions.rows ≡ row_of s (volume_of s h) (value_of s h)
+  row_by_log s = same-row s _ _ _ _ (stored-traded (λ e. e.shares) s) (stored-traded execution_worth s)
+
+  row_says : (s : ℕ) → row_or_new s (row_in s d) ≡ row_of s (volume_of s h) (value_of s h)
+  row_says s = row-now h d.executions.rows d.symbols.rows st.rows s ∙ row_by_log s
+
+  turnover : (s : ℕ) → IsTraded h s (volume_in (row_in s d)) (value_in (row_in s d))
+  turnover s = (
+    volume_in_row s (row_in s d) ∙ ap (λ r. r.volume) (row_says s),
+    value_in_row s (row_in s d) ∙ ap row_worth (row_says s) ∙ parted (value_of s h),
+  )
+
+  stored-all : (w : Execution → ℕ) → sum (unless_marked w) d.executions.rows ≡ sum w (all_traded h)
+  stored-all w = sym (sum-those w (λ e. eqb (times_broken e.id h) 0) (fills h) ∙ st.fills.same w)
 
 -- What is logged, a day stands for.
 
@@ -74,7 +91,7 @@ opened d o =
       within = omega arith;
       orders = rw o.orders (record { rising = tt; narrow = tt; count = omega arith; each = λ id. refl; balance = λ s. refl });
       fills = rw o.executions (record { rising = tt; narrow = tt; count = omega arith; each = λ x. record { times = refl; is = refl }; same = λ w. refl });
-      rows = rw (o.executions, o.symbols) (record { rising = tt; narrow = tt; volume = λ s. refl; value = λ s. refl });
+      rows = rw (o.executions, o.symbols) (record { rising = tt; needed = tt; each = λ s. refl });
     }
 
 module _ (line : List ℕ) (log : Log) (d : Day) (st : Stands (history log) d) where
@@ -108,12 +125,11 @@ every_log log d l =
           rw (os.each id)
           (left_over (last_add id (history log)) (since_add id (history log)) id
           (λ o is. (found-each order_key NarrowOrder id d.orders.rows o os.narrow (os.each id ∙ is)).least));
-      turnover_adds_up = λ s. (
-        volume_in_row (row_in s d) ∙ st.rows.volume s ∙ sym (traded-sum (history log) d st (λ e. e.shares) s),
-        value_in_row (row_in s d) ∙ st.rows.value s ∙ sym (traded-sum (history log) d st execution_worth s),
-      );
+      turnover_adds_up = turnover (history log) d st;
       none_broken_twice = λ x. rw ((st.fills.each x).times) (once (lookup execution_key x d.executions.rows));
       orders_as_added = os.each;
       executions_as_accepted = λ x. (st.fills.each x).is;
+      rows_as_traded = λ s. st.rows.each s ∙ rw (row_by_log (history log) d st s) refl;
+      market_adds_up = ?m;
       accepted_are_counted = st.count;
     }

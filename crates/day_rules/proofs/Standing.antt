@@ -1,17 +1,17 @@
 -- What ties the accepted messages of a log to the day after it.
-use Rattle.std.proofs.Common.{◌≡◌, ℕ, ◌+◌, ◌%◌, ◌^◌, ◌<◌, ◌≤◌, cond, eqb, false, List, length, Some, None, Option, arith}
+use Rattle.std.proofs.Common.{◌≡◌, ℕ, ◌+◌, ◌%◌, ◌^◌, ◌<◌, ◌≤◌, cond, eqb, true, false, List, length, Some, None, Option, arith}
 use Rattle.records.specs.declared.order.Order.{Order}
 use Rattle.records.specs.declared.execution.Execution.{Execution}
 use Rattle.records.specs.declared.symbol_row.SymbolRow.{SymbolRow}
-use Rattle.records.specs.Keys.{order_key, execution_key, symbol_key, row_worth}
+use Rattle.records.specs.Keys.{order_key, execution_key, symbol_key}
 use Rattle.store.specs.Lists.{Each, Rising, lookup}
 use Rattle.book.specs.Books.{sum}
 use Rattle.day_rules.specs.declared.outcome.Outcome.{Outcome}
 use Rattle.day_rules.specs.Days.{Day, greatest_limit}
 use Rattle.day_rules.specs.Events.{Event, clears, adds, executes, cancels, trades, breaks}
 use Rattle.day_rules.specs.Laws.{IsLeft}
-use Rattle.day_rules.specs.Rows.{execution_worth}
-use Rattle.day_rules.specs.Words.{History, Accepted, last_add, since_add, clear_among, taken_off, shares_added, shares_taken, shares_cleared, order_by, fills, times_broken, execution_by}
+use Rattle.day_rules.specs.Rows.{execution_worth, row_of}
+use Rattle.day_rules.specs.Words.{History, Accepted, last_add, since_add, clear_among, taken_off, shares_added, shares_taken, shares_cleared, order_by, fills, times_broken, execution_by, row_needed}
 
 -- as a line can give it: an ID and a symbol of 64 bits, ten digits of a price, six of shares, and at least one share
 pub record NarrowOrder (o : Order) : Type 0 where
@@ -90,20 +90,19 @@ pub record FillsStand (h : History) (es : List Execution) : Type 0 where
 abbrev pub if_of : (Execution → ℕ) → ℕ → Execution → ℕ
 if_of w s e = cond (eqb e.symbol s) (w e) 0
 
--- what a row says, a missing one 0
-abbrev pub in_row : (SymbolRow → ℕ) → Option SymbolRow → ℕ
-in_row says None = 0
-in_row says (Some r) = says r
+-- what is counted of the unbroken ones of a symbol
+abbrev pub stored : (Execution → ℕ) → ℕ → List Execution → ℕ
+stored w s es = sum (unless_marked (if_of w s)) es
 
--- a row says what comes to so much of the unbroken ones
-abbrev pub Says : (SymbolRow → ℕ) → (Execution → ℕ) → List Execution → List SymbolRow → Type 0
-Says says w es rs = (s : ℕ) → in_row says (lookup symbol_key s rs) ≡ sum (unless_marked (if_of w s)) es
+-- the row that they come to
+abbrev pub row_stored : ℕ → List Execution → SymbolRow
+row_stored s es = row_of s (stored (λ e. e.shares) s es) (stored execution_worth s es)
 
-pub record RowsStand (es : List Execution) (rs : List SymbolRow) : Type 0 where
+-- a row stands just where the log needs one, as for the symbol of each stored execution, and says what they come to
+pub record RowsStand (h : History) (es : List Execution) (rs : List SymbolRow) : Type 0 where
   pub rising : Rising symbol_key rs
-  pub narrow : Each (λ r. r.symbol < 2 ^ 64) rs
-  pub volume : Says (λ r. r.volume) (λ e. e.shares) es rs
-  pub value : Says row_worth execution_worth es rs
+  pub needed : Each (λ e. row_needed e.symbol h ≡ true) es
+  pub each : (s : ℕ) → lookup symbol_key s rs ≡ cond (row_needed s h) (Some (row_stored s es)) None
 
 -- All of it.
 pub record Stands (h : History) (d : Day) : Type 0 where
@@ -112,4 +111,4 @@ pub record Stands (h : History) (d : Day) : Type 0 where
   pub within : d.accepted ≤ greatest_limit
   pub orders : OrdersStand h d.orders.rows
   pub fills : FillsStand h d.executions.rows
-  pub rows : RowsStand d.executions.rows d.symbols.rows
+  pub rows : RowsStand h d.executions.rows d.symbols.rows
