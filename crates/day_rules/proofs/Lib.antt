@@ -2,6 +2,7 @@ pub mod Depths
 pub mod Fills
 pub mod Fits
 pub mod Logs
+pub mod Market
 pub mod Orders
 pub mod Rows
 pub mod Standing

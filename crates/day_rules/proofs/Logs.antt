@@ -1,5 +1,5 @@
 -- Every log adds up, as what it stands for does.
-use Rattle.std.proofs.Common.{◌≡◌, ℕ, ◌≤◌, cond, eqb, leb, true, false, List, [], ◌∷◌, Some, None, Ok, Err, Option, Result, refl, sym, ap, ◌∙◌, ⊎_elim, arith}
+use Rattle.std.proofs.Common.{◌≡◌, ℕ, ◌≤◌, cond, eqb, leb, true, false, List, [], ◌∷◌, length, Some, None, Ok, Err, Option, Result, refl, sym, ap, ◌∙◌, ⊎_elim, arith}
 use Rattle.std.proofs.lemmas.Bool.{cases_Bool, eqb-true, leb-false}
 use Rattle.std.proofs.lemmas.Bool.Decides.{nat_tests}
 use Rattle.messages.specs.declared.fault.MessageFault.{MessageFault}
@@ -13,16 +13,18 @@ use Rattle.store.specs.Lists.{lookup}
 use Rattle.store.proofs.Ruling.{found-each}
 use Rattle.book.specs.Books.{sum}
 use Rattle.day_rules.specs.declared.fault.LedgerFault.{LedgerFault}
-use Rattle.day_rules.specs.Days.{Day}
+use Rattle.day_rules.specs.Days.{Day, greatest_limit}
 use Rattle.day_rules.specs.Events.{event_of}
-use Rattle.day_rules.specs.Laws.{IsLeftOf, IsTraded, shares_of, volume_in, value_in, EveryLog}
+use Rattle.day_rules.specs.Laws.{IsLeftOf, IsTraded, IsMarket, shares_of, volume_in, value_in, EveryLog}
 use Rattle.day_rules.specs.Log.{Log, IsOpening, Logged, told, asked}
+use Rattle.day_rules.specs.Questions.{market_in}
 use Rattle.day_rules.specs.Rows.{execution_worth, row_of, row_or_new}
 use Rattle.day_rules.specs.Rules.{less_shares, row_in, allowed, permitted, outcome, after, counted, or_refused, or_same, message_answer, message_after, answer, next}
 use Rattle.day_rules.specs.Words.{History, history, last_add, since_add, clear_among, taken_off, left_of_add, fills, counts_for, traded, times_broken, volume_of, value_of, all_traded}
 use Rattle.day_rules.proofs.Depths.{resting}
 use Rattle.day_rules.proofs.Fits.{line-fits}
 use Rattle.day_rules.proofs.Standing.{NarrowOrder, broken_times, unless_broken, unless_marked, if_of, stored, row_stored, Stands}
+use Rattle.day_rules.proofs.Market.{all-shares, all-worth}
 use Rattle.day_rules.proofs.Rows.{same-row, parted, row-now}
 use Rattle.day_rules.proofs.Stepping.{passed, few_orders, step}
 use Rattle.day_rules.proofs.Sums.{sum-same, sum-those, each-all}
@@ -79,6 +81,15 @@ module _ (h : History) (d : Day) (st : Stands h d) where
   stored-all : (w : Execution → ℕ) → sum (unless_marked w) d.executions.rows ≡ sum w (all_traded h)
   stored-all w = sym (sum-those w (λ e. eqb (times_broken e.id h) 0) (fills h) ∙ st.fills.same w)
 
+  few_executions : length d.executions.rows ≤ greatest_limit
+  few_executions = let n = st.fills.count in let c = st.count in let w = st.within in omega arith
+
+  market : IsMarket h (market_in d)
+  market = (
+    all-shares h d.executions.rows d.symbols.rows st.rows st.fills.narrow few_executions ∙ stored-all (λ e. e.shares),
+    all-worth h d.executions.rows d.symbols.rows st.rows st.fills.narrow few_executions ∙ stored-all execution_worth,
+  )
+
 -- What is logged, a day stands for.
 
 opened : (d : Day) → IsOpening d → Stands [] d
@@ -130,6 +141,6 @@ every_log log d l =
       orders_as_added = os.each;
       executions_as_accepted = λ x. (st.fills.each x).is;
       rows_as_traded = λ s. st.rows.each s ∙ rw (row_by_log (history log) d st s) refl;
-      market_adds_up = ?m;
+      market_adds_up = market (history log) d st;
       accepted_are_counted = st.count;
     }

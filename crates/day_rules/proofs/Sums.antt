@@ -1,5 +1,5 @@
 -- Sums over lists by key.
-use Rattle.std.proofs.Common.{◌≡◌, ℕ, ◌+◌, ◌*◌, ◌<◌, ◌≤◌, Bool, cond, eqb, List, [], ◌∷◌, length, Some, refl, sym, ◌∙◌, ⊎_elim, arith}
+use Rattle.std.proofs.Common.{◌≡◌, ℕ, ◌+◌, ◌*◌, ◌<◌, ◌≤◌, Bool, false, cond, eqb, List, [], ◌∷◌, length, Some, refl, sym, ◌∙◌, ⊎_elim, arith}
 use Rattle.std.proofs.lemmas.Bool.{cases_eq, eq-eqb, ne_eqb}
 use Rattle.std.proofs.lemmas.Bool.Decides.{nat_tests}
 use Rattle.store.specs.Lists.{Each, Rising, lookup, holds, placed, replaced, without, those, others}
@@ -60,6 +60,10 @@ module _ {X : Type 0} where
   length-others p [] = omega arith
   length-others p (x ∷ xs) = grind (arith, nat_tests, length-others p xs)
 
+  pub sum-none : (xs : List X) → sum (λ x. 0) xs ≡ 0
+  sum-none [] = refl
+  sum-none (x ∷ xs) = let r = sum-none xs in omega arith
+
   -- what the record with one key gives
   pub sum-one : (key : X → ℕ) (k n : ℕ) (xs : List X) → Rising key xs → sum (λ x. cond (eqb k (key x)) n 0) xs ≡ cond (holds key k xs) n 0
   sum-one key k n [] up = refl
@@ -67,9 +71,8 @@ module _ {X : Type 0} where
       let rest = sum-one key k n xs up.1 in
       ⊎_elim
       (λ e.
-      let none = holds-absent key k xs (absent-higher key k xs (rw e at up.0)) in
-      let nothing = rw none at rest in
-      rw (eq-eqb (key x) k e, eq-eqb k (key x) (sym e)) (omega arith))
+      let none : holds key k xs ≡ false = holds-absent key k xs (absent-higher key k xs (rw e at up.0)) in
+      rw (eq-eqb (key x) k e, eq-eqb k (key x) (sym e), rest, none) (omega arith))
       (λ m. rw (ne_eqb (key x) k m, ne_eqb k (key x) (λ e. m (sym e))) (omega arith))
       (cases_eq (key x) k)
 
