@@ -4,6 +4,7 @@ pub mod Fits
 pub mod Logs
 pub mod Market
 pub mod Orders
+pub mod Refusing
 pub mod Rows
 pub mod Standing
 pub mod Stepping

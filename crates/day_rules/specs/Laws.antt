@@ -1,5 +1,5 @@
 -- What a log adds up to.
-use Rattle.std.specs.Prelude.{◌≡◌, ℕ, ◌+◌, ◌*◌, ◌≤◌, true, false, length, Some, None, Option}
+use Rattle.std.specs.Prelude.{◌≡◌, ℕ, ◌+◌, ◌*◌, ◌≤◌, true, false, List, length, Some, None, Err, Option}
 use Rattle.messages.specs.declared.code.Side.{Side}
 use Rattle.messages.specs.declared.code.Side.TheVariants.{Buy, Sell}
 use Rattle.records.specs.declared.order.Order.{Order}
@@ -8,10 +8,11 @@ use Rattle.records.specs.Keys.{row_worth}
 use Rattle.records.specs.Values.{worth}
 use Rattle.book.specs.declared.turnover.Turnover.{Turnover}
 use Rattle.book.specs.Books.{sum}
+use Rattle.day_rules.specs.declared.fault.LedgerFault.{LedgerFault}
 use Rattle.day_rules.specs.Days.{Day}
 use Rattle.day_rules.specs.Log.{Log, Logged}
 use Rattle.day_rules.specs.Questions.{book_in, market_in}
-use Rattle.day_rules.specs.Rules.{order_in, execution_in, row_in}
+use Rattle.day_rules.specs.Rules.{order_in, execution_in, row_in, answer, next}
 use Rattle.day_rules.specs.Words.{History, history, last_add, since_add, clear_among, taken_off, shares_added, shares_taken, shares_cleared, times_broken, volume_of, value_of, order_by, execution_by, row_by, all_traded}
 
 -- What is asked after the log. A missing order or row counts as 0.
@@ -104,3 +105,7 @@ pub record LogLaws (log : Log) (d : Day) : Type 0 where
 
 abbrev pub EveryLog : Type 0
 EveryLog = (log : Log) (d : Day) → Logged log d → LogLaws log d
+
+-- A refused line changes nothing.
+abbrev pub RefusedUnchanged : Type 0
+RefusedUnchanged = (line : List ℕ) (d : Day) (f : LedgerFault) → answer line d ≡ Err f → next line d ≡ d
