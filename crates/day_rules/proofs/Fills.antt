@@ -1,6 +1,5 @@
 -- What each accepted message leaves of the executions and trades.
 use Rattle.std.proofs.Common.{◌≡◌, ℕ, ◌+◌, ◌%◌, ◌^◌, ◌<◌, true, false, cond, eqb, List, [], ◌∷◌, is_some, Some, None, Option, refl, sym, ap, ◌∙◌, subst, ⊎_elim, arith}
-use Rattle.std.proofs.Math.Nat.{zero-add}
 use Rattle.std.proofs.lemmas.Bool.{cases_eq, ne_eqb, eq-eqb}
 use Rattle.std.proofs.lemmas.Bool.Decides.{nat_tests}
 use Rattle.records.specs.declared.execution.Execution.{Execution}
@@ -15,7 +14,7 @@ use Rattle.book.specs.Books.{sum}
 use Rattle.day_rules.specs.declared.outcome.Outcome.{Outcome}
 use Rattle.day_rules.specs.Events.{Event, breaks}
 use Rattle.day_rules.specs.Rules.{marked}
-use Rattle.day_rules.specs.Words.{History, fills, then_fill, breaks_of, times_broken, fill_with, marked_if, execution_by}
+use Rattle.day_rules.specs.Words.{History, fills, then_fill, breaks_of, times_broken, fill_with, marked_if}
 use Rattle.day_rules.proofs.Standing.{NarrowFill, broken_times, unless_broken, unless_marked, Told, FillsStand, said, own_key}
 use Rattle.day_rules.proofs.Sums.{sum-same, sum-placed, each-all}
 

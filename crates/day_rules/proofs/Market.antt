@@ -1,5 +1,5 @@
 -- All rows together come to all that traded, and no sum of them stops.
-use Rattle.std.proofs.Common.{◌≡◌, ℕ, ◌+◌, ◌*◌, ◌≤◌, Bool, true, false, cond, eqb, List, [], ◌∷◌, length, is_some, Some, None, refl, sym, ap, ◌∙◌, arith}
+use Rattle.std.proofs.Common.{◌≡◌, ℕ, ◌*◌, ◌≤◌, Bool, true, false, cond, eqb, List, [], ◌∷◌, length, is_some, Some, None, refl, sym, ap, ◌∙◌, arith}
 use Rattle.std.proofs.lemmas.Bool.Decides.{nat_tests}
 use Rattle.records.specs.declared.execution.Execution.{Execution}
 use Rattle.records.specs.declared.symbol_row.SymbolRow.{SymbolRow}
@@ -12,7 +12,7 @@ use Rattle.book.specs.Books.{sum, turnover_of}
 use Rattle.day_rules.specs.Days.{greatest_limit}
 use Rattle.day_rules.specs.Rows.{execution_worth}
 use Rattle.day_rules.specs.Words.{History, row_needed}
-use Rattle.day_rules.proofs.Rows.{parted, unbroken-most, shares-most, worth-most, row-held}
+use Rattle.day_rules.proofs.Rows.{parted, all-few, shares-most, worth-most, row-held}
 use Rattle.day_rules.proofs.Standing.{NarrowFill, unless_marked, if_of, stored, row_stored, RowsStand}
 use Rattle.day_rules.proofs.Sums.{sum-same, sum-both, sum-one, sum-none, each-all, found-own}
 
@@ -56,12 +56,12 @@ module _ (h : History) (es : List Execution) (rs : List SymbolRow) (st : RowsSta
   module _ (narrow : Each NarrowFill es) (few : length es ≤ greatest_limit) where
     pub all-shares : (turnover_of rs).volume.number ≡ sum (unless_marked (λ e. e.shares)) es
     all-shares =
-        let most = unbroken-most (λ e. e.shares) 999999 shares-most es narrow in
+        let small = all-few (λ e. e.shares) 999999 shares-most es narrow few in
         let all = all_rows (λ r. r.volume) (λ e. e.shares) (λ s. refl) in
         omega arith
 
     pub all-worth : worth (turnover_of rs).value ≡ sum (unless_marked execution_worth) es
     all-worth =
-        let most = unbroken-most execution_worth (999999 * 9999999999) worth-most es narrow in
+        let small = all-few execution_worth (999999 * 9999999999) worth-most es narrow few in
         let all = all_rows row_worth execution_worth (λ s. parted (stored execution_worth s es)) in
         worth-valued (sum row_worth rs) ∙ (omega arith)

@@ -1,5 +1,6 @@
 -- What each accepted message leaves of the orders.
 use Rattle.std.proofs.Common.{◌≡◌, ℕ, ◌+◌, ◌-◌, ◌≤◌, Bool, true, false, cond, eqb, ◌||◌, List, [], ◌∷◌, length, is_some, Some, None, Option, refl, sym, ap, ◌∙◌, subst, ⊎_elim, arith}
+use Rattle.std.proofs.Math.Bool.{or-true}
 use Rattle.std.proofs.lemmas.Bool.{cases_eq, cases_Bool, ne_eqb, eq-eqb, eqb-true, eqb-false}
 use Rattle.std.proofs.lemmas.Bool.Decides.{nat_tests}
 use Rattle.records.specs.declared.order.Order.{Order}
@@ -44,38 +45,41 @@ abbrev Enough : ℕ → Option Order → Type 0
 Enough n None = n ≡ 0
 Enough n (Some o) = (1 ≤ o.shares) × (n ≤ o.shares)
 
--- taken off one after the other, or all at once
-less_twice : (m n : ℕ) (o : Order) → less_shares (n + m) o ≡ less_shares n (less_shares m o)
-less_twice m n o =
-    let e : o.shares - (n + m) ≡ o.shares - m - n = omega arith in
-    λ i. record { id = o.id; symbol = o.symbol; price = o.price; shares = e i; side = o.side; display = o.display }
+-- the same order with so many shares
+same_but_shares : (o : Order) (m n : ℕ) → o.shares - m ≡ n → less_shares m o ≡ record { id = o.id; symbol = o.symbol; price = o.price; shares = n; side = o.side; display = o.display }
+same_but_shares o m n e = λ i. record { id = o.id; symbol = o.symbol; price = o.price; shares = e i; side = o.side; display = o.display }
 
+-- nothing is taken off
+untouched : (o : Order) → 1 ≤ o.shares → left_if false 0 o ≡ Some o
+untouched o l = rw (ne_eqb 0 o.shares (omega arith)) (ap Some (same_but_shares o 0 o.shares (omega arith)))
+
+none_taken : (cleared : ℕ → Bool) (n : ℕ) (x : Option Order) → ((s : ℕ) → cleared s ≡ false) → n ≡ 0 → Enough n x → left_after cleared n x ≡ x
+none_taken cleared n None c z e = refl
+none_taken cleared n (Some o) c z e = rw (c o.symbol, z) (untouched o e.0)
+
+-- taken off one after the other, or all at once
 both_taken : (later : Bool) (m n : ℕ) (o : Order) → n + m ≤ o.shares → 1 ≤ o.shares - m → left_if (later || false) (n + m) o ≡ left_if later n (less_shares m o)
 both_taken true m n o e l = refl
 both_taken false m n o e l =
     ⊎_elim
     (λ t. rw (eq-eqb (n + m) o.shares (omega arith), eq-eqb n (o.shares - m) t) refl)
-    (λ t. rw (ne_eqb (n + m) o.shares (omega arith), ne_eqb n (o.shares - m) t) (ap Some (less_twice m n o)))
+    (λ t. rw (ne_eqb (n + m) o.shares (omega arith), ne_eqb n (o.shares - m) t) (ap Some (same_but_shares o (n + m) (o.shares - m - n) (omega arith))))
     (cases_eq n (o.shares - m))
-
-gone_already : (gone : Bool) (n : ℕ) (o : Order) → gone ≡ true → left_if gone n o ≡ None
-gone_already gone n o t = rw t refl
 
 one_by_one : (later : ℕ → Bool) (gone : Bool) (m n : ℕ) (o : Order) → Enough n (left_if gone m o) → left_if (later o.symbol || gone) (n + m) o ≡ left_after later n (left_if gone m o)
 one_by_one later gone m n o e =
     ⊎_elim
-    (λ t. rw t (gone_already (later o.symbol || true) (n + m) o (⊎_elim (λ u. rw u refl) (λ u. rw u refl) (cases_Bool (later o.symbol)))))
+    (λ t. rw t (rw (or-true (later o.symbol)) refl))
     (λ t.
     let f = rw t at e in
-    rw t
-    (⊎_elim
-    (λ u. let g = rw u at f in rw (u, eq-eqb (n + m) o.shares (let v = eqb-true m o.shares u in omega arith)) (⊎_elim (λ v. rw v refl) (λ v. rw v refl) (cases_Bool (later o.symbol))))
+    ⊎_elim
+    (λ u. let none = rw u at f in let all = eqb-true m o.shares u in rw (t, u) (rw (eq-eqb (n + m) o.shares (omega arith), or-true (later o.symbol || false)) refl))
     (λ u.
     let g = rw u at f in
     let more : 1 ≤ o.shares - m = g.0 in
     let enough : n ≤ o.shares - m = g.1 in
-    rw u (both_taken (later o.symbol) m n o (omega arith) more))
-    (cases_Bool (eqb m o.shares))))
+    rw (t, u) (both_taken (later o.symbol) m n o (omega arith) more))
+    (cases_Bool (eqb m o.shares)))
     (cases_Bool gone)
 
 -- a message that adds no order of the ID takes its shares off what was left
@@ -134,19 +138,6 @@ pub record Spares (e : Event) : Type 0 where
 others_of : (c s : ℕ) (os : List Order) → sum (shares_if s) (others (is_of c) os) + cond (eqb c s) (sum (shares_if c) os) 0 ≡ sum (shares_if s) os
 others_of c s [] = grind (arith, nat_tests)
 others_of c s (o ∷ os) = grind (arith, nat_tests, others_of c s os)
-
--- nothing is taken off
-none_less : (o : Order) → less_shares 0 o ≡ o
-none_less o =
-    let e : o.shares - 0 ≡ o.shares = omega arith in
-    λ i. record { id = o.id; symbol = o.symbol; price = o.price; shares = e i; side = o.side; display = o.display }
-
-untouched : (o : Order) → 1 ≤ o.shares → left_if false 0 o ≡ Some o
-untouched o l = rw (ne_eqb 0 o.shares (omega arith)) (ap Some (none_less o))
-
-none_taken : (cleared : ℕ → Bool) (n : ℕ) (x : Option Order) → ((s : ℕ) → cleared s ≡ false) → n ≡ 0 → Enough n x → left_after cleared n x ≡ x
-none_taken cleared n None c z e = refl
-none_taken cleared n (Some o) c z e = rw (c o.symbol, z) (untouched o e.0)
 
 module _ (h : History) (os : List Order) (st : OrdersStand h os) (answered : Outcome) where
   module _ (e : Event) where

@@ -1,12 +1,13 @@
 -- What each accepted message leaves of the symbols' rows.
-use Rattle.std.proofs.Common.{◌≡◌, ℕ, ◌+◌, ◌-◌, ◌*◌, ◌/◌, ◌%◌, ◌^◌, ◌<◌, ◌≤◌, Bool, true, false, cond, eqb, not, ◌&&◌, ◌||◌, List, [], ◌∷◌, length, is_some, Some, None, Option, refl, sym, ap, ◌∙◌, subst, ⊎_elim, inl, inr, ◌⊎◌, arith}
+use Rattle.std.proofs.Common.{◌≡◌, ℕ, ◌+◌, ◌-◌, ◌*◌, ◌/◌, ◌%◌, ◌^◌, ◌<◌, ◌≤◌, true, false, cond, eqb, not, ◌&&◌, ◌||◌, List, [], ◌∷◌, length, is_some, Some, None, Option, refl, sym, ap, ◌∙◌, subst, ⊎_elim, inl, inr, ◌⊎◌, arith}
 use Rattle.std.proofs.Math.Nat.{mul-le-mul, mul-le-mul_left}
+use Rattle.std.proofs.Math.Bool.{or-true}
 use Rattle.std.proofs.lemmas.Bool.{cases_eq, cases_Bool, ne_eqb, eq-eqb}
 use Rattle.std.proofs.lemmas.Bool.Decides.{nat_tests}
 use Rattle.records.specs.declared.order.Order.{Order}
 use Rattle.records.specs.declared.execution.Execution.{Execution}
 use Rattle.records.specs.declared.symbol_row.SymbolRow.{SymbolRow}
-use Rattle.records.specs.Keys.{execution_key, symbol_key, row_worth}
+use Rattle.records.specs.Keys.{execution_key, symbol_key}
 use Rattle.store.specs.Lists.{Each, Rising, lookup, holds, placed, replaced}
 use Rattle.store.specs.Models.{Model, inserted}
 use Rattle.store.proofs.Each.{each-so}
@@ -21,7 +22,7 @@ use Rattle.day_rules.specs.Rules.{is_full, row_put, row_taken, marked}
 use Rattle.day_rules.specs.Events.{Event, clears, adds, executes, cancels, trades, breaks}
 use Rattle.day_rules.specs.Words.{History, or_added, last_add, needs_row, row_needed}
 use Rattle.day_rules.proofs.Standing.{NarrowFill, unless_marked, if_of, stored, row_stored, RowsStand, own_key}
-use Rattle.day_rules.proofs.Sums.{sum-most, sum-placed, sum-replaced}
+use Rattle.day_rules.proofs.Sums.{each-all, sum-least, sum-most, sum-placed, sum-replaced}
 
 -- What executions come to.
 
@@ -32,20 +33,26 @@ same-row s v v2 w w2 p q = λ i. row_of s (p i) (q i)
 pub parted : (n : ℕ) → n / 10 ^ 16 * 10 ^ 16 + n % 10 ^ 16 ≡ n
 parted n = omega arith
 
--- what is counted of a line's executions is small
-module _ (w : Execution → ℕ) (most : ℕ) (bound : (e : Execution) → NarrowFill e → w e ≤ most) where
-  pub unbroken-most : (es : List Execution) → Each NarrowFill es → sum (unless_marked w) es ≤ most * length es
-  unbroken-most es narrow =
-      sum-most (unless_marked w) most es (each-so NarrowFill (λ e. unless_marked w e ≤ most) (λ e n. let b = bound e n in grind (arith, nat_tests)) es narrow)
-
 pub shares-most : (e : Execution) → NarrowFill e → e.shares ≤ 999999
 shares-most e n = n.shares
 
 pub worth-most : (e : Execution) → NarrowFill e → execution_worth e ≤ 999999 * 9999999999
 worth-most e n = mul-le-mul n.shares n.price
 
-if_most : (w : Execution → ℕ) (most s : ℕ) → ((e : Execution) → NarrowFill e → w e ≤ most) → (e : Execution) → NarrowFill e → if_of w s e ≤ most
-if_most w most s bound e n = let b = bound e n in grind (arith, nat_tests)
+-- what is counted of the executions of a day is small
+module _ (w : Execution → ℕ) (most : ℕ) (bound : (e : Execution) → NarrowFill e → w e ≤ most) (es : List Execution) (narrow : Each NarrowFill es) (few : length es ≤ greatest_limit) where
+  pub all-few : sum (unless_marked w) es ≤ most * greatest_limit
+  all-few =
+      let each = each-so NarrowFill (λ e. unless_marked w e ≤ most) (λ e n. let b = bound e n in grind (arith, nat_tests)) es narrow in
+      let all = sum-most (unless_marked w) most es each in
+      let room = mul-le-mul_left most few in
+      omega arith
+
+  stored_few : (s : ℕ) → stored w s es ≤ most * greatest_limit
+  stored_few s =
+      let all = all-few in
+      let part = sum-least (unless_marked (if_of w s)) (unless_marked w) es (each-all _ (λ e. grind (arith, nat_tests)) es) in
+      omega arith
 
 -- of a symbol that needs no row, nothing
 none_stored : (w : Execution → ℕ) (s : ℕ) (h : History) (es : List Execution) → Each (λ e. row_needed e.symbol h ≡ true) es → row_needed s h ≡ false → stored w s es ≡ 0
@@ -70,55 +77,46 @@ module _ (h : History) (es : List Execution) (rs : List SymbolRow) (st : RowsSta
   row-held s t = st.each s ∙ rw t refl
 
 -- An execution more, or one broken.
-stored_more : (w : Execution → ℕ) (e : Execution) (s : ℕ) (es : List Execution) → e.broken ≡ false → stored w s (placed execution_key e es) ≡ if_of w s e + stored w s es
-stored_more w e s es unbroken = let more = sum-placed (unless_marked (if_of w s)) execution_key e es in let its : unless_marked (if_of w s) e ≡ if_of w s e = rw unbroken refl in omega arith
-
-stored_less : (w : Execution → ℕ) (e : Execution) (s : ℕ) (es : List Execution) → e.broken ≡ false → lookup execution_key (execution_key e) es ≡ Some e
-    → stored w s (replaced execution_key (marked e) es) + if_of w s e ≡ stored w s es
-stored_less w e s es unbroken found =
-    let r = sum-replaced (unless_marked (if_of w s)) execution_key (marked e) e es found in let its : unless_marked (if_of w s) e ≡ if_of w s e = rw unbroken refl in omega arith
-
-own : (w : Execution → ℕ) (e : Execution) → if_of w e.symbol e ≡ w e
-own w e = rw (eq-eqb e.symbol e.symbol refl) refl
-
-foreign : (w : Execution → ℕ) (e : Execution) (s : ℕ) → (e.symbol ≡ s → ⊥) → if_of w s e ≡ 0
-foreign w e s n = rw (ne_eqb e.symbol s n) refl
-
--- what is counted of a day
-module _ (es : List Execution) (narrow : Each NarrowFill es) (few : length es ≤ greatest_limit) (s : ℕ) where
-  few_shares : stored (λ e. e.shares) s es ≤ 999999 * greatest_limit
-  few_shares = let all = unbroken-most (if_of (λ e. e.shares) s) 999999 (if_most (λ e. e.shares) 999999 s shares-most) es narrow in omega arith
-
-  few_worths : stored execution_worth s es ≤ 999999 * 9999999999 * greatest_limit
-  few_worths = let all = unbroken-most (if_of execution_worth s) (999999 * 9999999999) (if_most execution_worth (999999 * 9999999999) s worth-most) es narrow in omega arith
-
 module _ (e : Execution) (unbroken : e.broken ≡ false) (es : List Execution) where
-  rows_more : (j : ℕ) → (e.symbol ≡ j → ⊥) → row_stored j (placed execution_key e es) ≡ row_stored j es
-  rows_more j n =
-      same-row j _ _ _ _
-      (let more = stored_more (λ f. f.shares) e j es unbroken in let none = foreign (λ f. f.shares) e j n in omega arith)
-      (let more = stored_more execution_worth e j es unbroken in let none = foreign execution_worth e j n in omega arith)
+  its_own : (w : Execution → ℕ) → unless_marked (if_of w e.symbol) e ≡ w e
+  its_own w = rw (unbroken, eq-eqb e.symbol e.symbol refl) refl
+
+  foreign : (w : Execution → ℕ) (s : ℕ) → (e.symbol ≡ s → ⊥) → unless_marked (if_of w s) e ≡ 0
+  foreign w s n = rw (unbroken, ne_eqb e.symbol s n) refl
+
+  module _ (w : Execution → ℕ) where
+    more_own : stored w e.symbol (placed execution_key e es) ≡ stored w e.symbol es + w e
+    more_own = let all = sum-placed (unless_marked (if_of w e.symbol)) execution_key e es in let its = its_own w in omega arith
+
+    more_other : (s : ℕ) → (e.symbol ≡ s → ⊥) → stored w s (placed execution_key e es) ≡ stored w s es
+    more_other s n = let all = sum-placed (unless_marked (if_of w s)) execution_key e es in let its = foreign w s n in omega arith
+
+  rows_more : (s : ℕ) → (e.symbol ≡ s → ⊥) → row_stored s (placed execution_key e es) ≡ row_stored s es
+  rows_more s n = same-row s _ _ _ _ (more_other (λ f. f.shares) s n) (more_other execution_worth s n)
 
   one_more : Each NarrowFill (placed execution_key e es) → length (placed execution_key e es) ≤ greatest_limit → with_execution e (row_stored e.symbol es) ≡ row_stored e.symbol (placed execution_key e es)
   one_more narrow few =
       let whole = parted (stored execution_worth e.symbol es) in
       same-row e.symbol _ _ _ _
-      (let more = stored_more (λ f. f.shares) e e.symbol es unbroken in let its = own (λ f. f.shares) e in let most = few_shares (placed execution_key e es) narrow few e.symbol in omega arith)
-      (let more = stored_more execution_worth e e.symbol es unbroken in let its = own execution_worth e in let most = few_worths (placed execution_key e es) narrow few e.symbol in omega arith)
+      (let now = more_own (λ f. f.shares) in let small = stored_few (λ f. f.shares) 999999 shares-most (placed execution_key e es) narrow few e.symbol in omega arith)
+      (let now = more_own execution_worth in let small = stored_few execution_worth (999999 * 9999999999) worth-most (placed execution_key e es) narrow few e.symbol in omega arith)
 
   module _ (found : lookup execution_key (execution_key e) es ≡ Some e) where
-    rows_less : (j : ℕ) → (e.symbol ≡ j → ⊥) → row_stored j (replaced execution_key (marked e) es) ≡ row_stored j es
-    rows_less j n =
-        same-row j _ _ _ _
-        (let less = stored_less (λ f. f.shares) e j es unbroken found in let none = foreign (λ f. f.shares) e j n in omega arith)
-        (let less = stored_less execution_worth e j es unbroken found in let none = foreign execution_worth e j n in omega arith)
+    module _ (w : Execution → ℕ) where
+      less_own : stored w e.symbol (replaced execution_key (marked e) es) ≡ stored w e.symbol es - w e
+      less_own = let all = sum-replaced (unless_marked (if_of w e.symbol)) execution_key (marked e) e es found in let its = its_own w in omega arith
+
+      less_other : (s : ℕ) → (e.symbol ≡ s → ⊥) → stored w s (replaced execution_key (marked e) es) ≡ stored w s es
+      less_other s n = let all = sum-replaced (unless_marked (if_of w s)) execution_key (marked e) e es found in let its = foreign w s n in omega arith
+
+    rows_less : (s : ℕ) → (e.symbol ≡ s → ⊥) → row_stored s (replaced execution_key (marked e) es) ≡ row_stored s es
+    rows_less s n = same-row s _ _ _ _ (less_other (λ f. f.shares) s n) (less_other execution_worth s n)
 
     one_less : Each NarrowFill es → length es ≤ greatest_limit → without_execution e (row_stored e.symbol es) ≡ row_stored e.symbol (replaced execution_key (marked e) es)
     one_less narrow few =
         let whole = parted (stored execution_worth e.symbol es) in
-        same-row e.symbol _ _ _ _
-        (let less = stored_less (λ f. f.shares) e e.symbol es unbroken found in let its = own (λ f. f.shares) e in omega arith)
-        (let less = stored_less execution_worth e e.symbol es unbroken found in let its = own execution_worth e in let most = few_worths es narrow few e.symbol in omega arith)
+        let small = stored_few execution_worth (999999 * 9999999999) worth-most es narrow few e.symbol in
+        same-row e.symbol _ _ _ _ (sym (less_own (λ f. f.shares))) (let now = less_own execution_worth in omega arith)
 
 -- A row put in.
 
@@ -162,7 +160,7 @@ module _ (h now_h : History) (s : ℕ) (small : s < 2 ^ 64) (needs : (j : ℕ) �
   needed_own = needs s ∙ rw (eq-eqb s s refl) refl
 
   needed_still : (j : ℕ) → row_needed j h ≡ true → row_needed j now_h ≡ true
-  needed_still j t = needs j ∙ rw t (⊎_elim (λ u. rw u refl) (λ u. rw u refl) (cases_Bool (eqb s j)))
+  needed_still j t = needs j ∙ rw t (or-true (eqb s j))
 
   module _ (es : List Execution) (m : Model SymbolRow) (st : RowsStand h es m.rows) where
     changed : (now_es : List Execution) → Each (λ e. row_needed e.symbol now_h ≡ true) now_es → ((j : ℕ) → (s ≡ j → ⊥) → row_stored j now_es ≡ row_stored j es)
@@ -245,7 +243,7 @@ pub added-row : (h : History) (id : ℕ) (o : Order) → last_add id h ≡ Some 
 added-row [] id o is = cc
 added-row (a ∷ h) id o is =
     ⊎_elim
-    (λ l. rw (added-row h id o l) (⊎_elim (λ u. rw u refl) (λ u. rw u refl) (cases_Bool (needs_row o.symbol a.event))))
+    (λ l. rw (added-row h id o l) (or-true (needs_row o.symbol a.event)))
     (λ t. rw t refl)
     (added-needs id a.event (last_add id h) o is)
 

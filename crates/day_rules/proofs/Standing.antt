@@ -9,9 +9,8 @@ use Rattle.book.specs.Books.{sum}
 use Rattle.day_rules.specs.declared.outcome.Outcome.{Outcome}
 use Rattle.day_rules.specs.Days.{Day, greatest_limit}
 use Rattle.day_rules.specs.Events.{Event, clears, adds, executes, cancels, trades, breaks}
-use Rattle.day_rules.specs.Laws.{IsLeft}
 use Rattle.day_rules.specs.Rows.{execution_worth, row_of}
-use Rattle.day_rules.specs.Words.{History, Accepted, last_add, since_add, clear_among, taken_off, shares_added, shares_taken, shares_cleared, order_by, fills, times_broken, execution_by, row_needed}
+use Rattle.day_rules.specs.Words.{History, Accepted, shares_added, shares_taken, shares_cleared, order_by, fills, times_broken, execution_by, row_needed}
 
 -- as a line can give it: an ID and a symbol of 64 bits, ten digits of a price, six of shares, and at least one share
 pub record NarrowOrder (o : Order) : Type 0 where

@@ -1,5 +1,6 @@
 -- Sums over lists by key.
-use Rattle.std.proofs.Common.{◌≡◌, ℕ, ◌+◌, ◌*◌, ◌<◌, ◌≤◌, Bool, false, cond, eqb, List, [], ◌∷◌, length, Some, refl, sym, ◌∙◌, ⊎_elim, arith}
+use Rattle.std.proofs.Common.{◌≡◌, ℕ, ◌+◌, ◌*◌, ◌<◌, ◌≤◌, Bool, cond, eqb, List, [], ◌∷◌, length, Some, refl, sym, ◌∙◌, ⊎_elim, arith}
+use Rattle.std.proofs.Math.Nat.{add-zero}
 use Rattle.std.proofs.lemmas.Bool.{cases_eq, eq-eqb, ne_eqb}
 use Rattle.std.proofs.lemmas.Bool.Decides.{nat_tests}
 use Rattle.store.specs.Lists.{Each, Rising, lookup, holds, placed, replaced, without, those, others}
@@ -9,10 +10,14 @@ use Rattle.store.proofs.Lookups.{lookup-here, lookup-later}
 use Rattle.book.specs.Books.{sum}
 
 module _ {X : Type 0} (w : X → ℕ) where
-  -- at each record the same, or at most b
+  -- at each record the same, or no more, or at most b
   pub sum-same : (v : X → ℕ) (xs : List X) → Each (λ x. w x ≡ v x) xs → sum w xs ≡ sum v xs
   sum-same v [] h = refl
   sum-same v (x ∷ xs) h = let a = h.0 in let r = sum-same v xs h.1 in omega arith
+
+  pub sum-least : (v : X → ℕ) (xs : List X) → Each (λ x. w x ≤ v x) xs → sum w xs ≤ sum v xs
+  sum-least v [] h = omega arith
+  sum-least v (x ∷ xs) h = let a = h.0 in let r = sum-least v xs h.1 in omega arith
 
   pub sum-most : (b : ℕ) (xs : List X) → Each (λ x. w x ≤ b) xs → sum w xs ≤ b * length xs
   sum-most b [] h = omega arith
@@ -71,8 +76,8 @@ module _ {X : Type 0} where
       let rest = sum-one key k n xs up.1 in
       ⊎_elim
       (λ e.
-      let none : holds key k xs ≡ false = holds-absent key k xs (absent-higher key k xs (rw e at up.0)) in
-      rw (eq-eqb (key x) k e, eq-eqb k (key x) (sym e), rest, none) (omega arith))
+      let none = holds-absent key k xs (absent-higher key k xs (rw e at up.0)) in
+      rw (eq-eqb (key x) k e, eq-eqb k (key x) (sym e), rest, none) (add-zero n))
       (λ m. rw (ne_eqb (key x) k m, ne_eqb k (key x) (λ e. m (sym e))) (omega arith))
       (cases_eq (key x) k)
 
