@@ -7,14 +7,14 @@ use Rattle.records.specs.Keys.{execution_key}
 use Rattle.store.specs.Lists.{Each, Rising, lookup, holds, placed, replaced}
 use Rattle.store.proofs.Inserting.{absent-unheld}
 use Rattle.store.proofs.Keyed.{lookup_absent}
-use Rattle.store.proofs.Lookups.{lookup-inserted, lookup-placed-other, lookup-replaced, lookup-replaced-other}
-use Rattle.store.proofs.Placed.{each_placed, rising-placed, length-placed}
-use Rattle.store.proofs.Ruling.{found-key, found-each, each-replaced, rising-replaced, length-replaced}
+use Rattle.store.proofs.Placed.{each_placed, length-placed}
+use Rattle.store.proofs.Ruling.{found-key, found-each, each-replaced, length-replaced}
 use Rattle.book.specs.Books.{sum}
 use Rattle.day_rules.specs.declared.outcome.Outcome.{Outcome}
 use Rattle.day_rules.specs.Events.{Event, breaks}
 use Rattle.day_rules.specs.Rules.{marked}
 use Rattle.day_rules.specs.Words.{History, fills, then_fill, breaks_of, times_broken, fill_with, marked_if}
+use Rattle.day_rules.proofs.Changed.{placing, exchanging, by-key}
 use Rattle.day_rules.proofs.Standing.{NarrowFill, broken_times, unless_broken, unless_marked, Told, FillsStand, said, own_key}
 use Rattle.day_rules.proofs.Sums.{sum-same, sum-placed, each-all}
 
@@ -85,23 +85,16 @@ module _ (h : History) (es : List Execution) (st : FillsStand h es) (answered : 
   pub fill-stands : (ev : Event) → Unbreaking ev → (e : Execution) → then_fill ev h (fills h) ≡ e ∷ fills h → NarrowFill e → e.broken ≡ false → holds execution_key e.id es ≡ false
       → FillsStand (said ev answered ∷ h) (placed execution_key e es)
   fill-stands ev u e fill fits unbroken free =
-      let key = own_key e.id fits.id in
-      let not_held : holds execution_key (execution_key e) es ≡ false = rw key free in
-      let absent = absent-unheld execution_key (execution_key e) es not_held in
-      let found : lookup execution_key e.id (placed execution_key e es) ≡ Some e = subst (λ k. lookup execution_key k (placed execution_key e es) ≡ Some e) key (lookup-inserted execution_key e es not_held) in
       let none : lookup execution_key e.id es ≡ None = lookup_absent execution_key e.id es (absent-unheld execution_key e.id es free) in
       let never : times_broken e.id (said ev answered ∷ h) ≡ 0 = times_same e.id ev (u e.id) ∙ (st.each e.id).times ∙ ap broken_times none in
+      let changed = placing execution_key e.id es st.rising e (own_key e.id fits.id) free in
       record {
-        rising = rising-placed execution_key e es absent st.rising;
+        rising = changed.rising;
         narrow = each_placed execution_key NarrowFill e es fits st.narrow;
         count = let c = st.count in let l = length-placed execution_key e es in omega arith;
-        each = λ x.
-            ⊎_elim
-            (λ m. subst (λ k. Told (said ev answered ∷ h) k (lookup execution_key k (placed execution_key e es))) m
-            (rw found (record { times = never ∙ rw unbroken refl; is = rw (fill, never, eq-eqb e.id e.id refl) refl })))
-            (λ m. rw (lookup-placed-other execution_key x e es (λ k. m (sym key ∙ k)))
-            (still_told x ev (u x) (ap (fill_with x) fill ∙ rw (ne_eqb e.id x m) refl) (lookup execution_key x es) (st.each x)))
-            (cases_eq e.id x);
+        each = by-key execution_key e.id es (Told (said ev answered ∷ h)) (Some e) (placed execution_key e es) changed
+            (record { times = never ∙ rw unbroken refl; is = rw (fill, never, eq-eqb e.id e.id refl) refl })
+            (λ x m. still_told x ev (u x) (ap (fill_with x) fill ∙ rw (ne_eqb e.id x m) refl) (lookup execution_key x es) (st.each x));
         same = λ w.
             let more = sum-placed (unless_marked w) execution_key e es in
             let rest = same_fills w ev u (fills h) ∙ st.same w in
@@ -131,25 +124,17 @@ module _ (h : History) (es : List Execution) (st : FillsStand h es) (answered : 
     pub break-stands : FillsStand (said (breaks x) answered ∷ h) (replaced execution_key (marked e) es)
     break-stands =
         let f = fits in
-        let its = its_id in
-        let key = own_key e.id f.id in
         let narrow : NarrowFill (marked e) = record { id = f.id; symbol = f.symbol; price = f.price; shares = f.shares } in
-        let found_by_key : lookup execution_key (execution_key e) es ≡ Some e = rw (key ∙ its) found in
-        let now : lookup execution_key x (replaced execution_key (marked e) es) ≡ Some (marked e) =
-        subst (λ k. lookup execution_key k (replaced execution_key (marked e) es) ≡ Some (marked e)) (key ∙ its) (lookup-replaced execution_key (marked e) es (ap is_some found_by_key)) in
+        let changed = exchanging execution_key x es st.rising (marked e) (found-key execution_key x es e found) (ap is_some found) in
         record {
-          rising = rising-replaced execution_key (marked e) es st.rising;
+          rising = changed.rising;
           narrow = each-replaced execution_key NarrowFill (marked e) es narrow st.narrow;
           count = let c = st.count in let l = length-replaced execution_key (marked e) es in omega arith;
-          each = λ y.
-              ⊎_elim
-              (λ m. subst (λ k. Told (said (breaks x) answered ∷ h) k (lookup execution_key k (replaced execution_key (marked e) es))) m (rw now its_mark))
-              (λ m. rw (lookup-replaced-other execution_key y (marked e) es (λ k. m (sym its ∙ sym key ∙ k)))
-              (still_told y (breaks x) (rw (ne_eqb x y m) refl) refl (lookup execution_key y es) (st.each y)))
-              (cases_eq x y);
+          each = by-key execution_key x es (Told (said (breaks x) answered ∷ h)) (Some (marked e)) (replaced execution_key (marked e) es) changed its_mark
+              (λ y m. still_told y (breaks x) (rw (ne_eqb x y m) refl) refl (lookup execution_key y es) (st.each y));
           same = λ w.
               sum-same (unless_broken w (said (breaks x) answered ∷ h)) (unless_broken (all_but x w) h) (fills h) (each-all _ (once_more w) (fills h))
               ∙ st.same (all_but x w)
-              ∙ ap (λ k. sum (unless_marked (all_but k w)) es) (sym its)
+              ∙ ap (λ k. sum (unless_marked (all_but k w)) es) (sym its_id)
               ∙ sum-marked w (marked e) narrow refl es st.rising st.narrow;
         }

@@ -1,3 +1,4 @@
+pub mod Changed
 pub mod Depths
 pub mod Fills
 pub mod Fits

@@ -1,5 +1,5 @@
 -- Every log adds up, as what it stands for does.
-use Rattle.std.proofs.Common.{◌≡◌, ℕ, ◌≤◌, cond, eqb, leb, List, [], ◌∷◌, length, Some, None, Ok, Err, Option, Result, refl, sym, ap, ◌∙◌, ⊎_elim, arith}
+use Rattle.std.proofs.Common.{◌≡◌, ℕ, ◌≤◌, cond, eqb, leb, List, [], ◌∷◌, Some, None, Ok, Err, Option, Result, refl, sym, ap, ◌∙◌, ⊎_elim, arith}
 use Rattle.std.proofs.lemmas.Bool.{cases_Bool, eqb-true, leb-false}
 use Rattle.std.proofs.lemmas.Bool.Decides.{nat_tests}
 use Rattle.messages.specs.declared.fault.MessageFault.{MessageFault}
@@ -13,7 +13,7 @@ use Rattle.store.specs.Lists.{lookup}
 use Rattle.store.proofs.Ruling.{found-each}
 use Rattle.book.specs.Books.{sum}
 use Rattle.day_rules.specs.declared.fault.LedgerFault.{LedgerFault}
-use Rattle.day_rules.specs.Days.{Day, greatest_limit}
+use Rattle.day_rules.specs.Days.{Day}
 use Rattle.day_rules.specs.Events.{event_of}
 use Rattle.day_rules.specs.Laws.{IsLeftOf, IsTraded, IsMarket, shares_of, volume_in, value_in, EveryLog}
 use Rattle.day_rules.specs.Log.{Log, IsOpening, Logged, told, asked}
@@ -26,7 +26,7 @@ use Rattle.day_rules.proofs.Fits.{line-fits}
 use Rattle.day_rules.proofs.Standing.{NarrowOrder, broken_times, unless_broken, unless_marked, if_of, stored, row_stored, Stands}
 use Rattle.day_rules.proofs.Market.{all-shares, all-worth}
 use Rattle.day_rules.proofs.Rows.{same-row, parted, row-now}
-use Rattle.day_rules.proofs.Stepping.{passed, few_orders, step}
+use Rattle.day_rules.proofs.Stepping.{passed, few, step}
 use Rattle.day_rules.proofs.Sums.{sum-same, sum-those, each-all}
 
 -- What a day stands for adds up.
@@ -70,7 +70,7 @@ module _ (h : History) (d : Day) (st : Stands h d) where
   row_by_log s = same-row s _ _ _ _ (stored-traded (λ e. e.shares) s) (stored-traded execution_worth s)
 
   row_says : (s : ℕ) → row_or_new s (row_in s d) ≡ row_of s (volume_of s h) (value_of s h)
-  row_says s = row-now h d.executions.rows d.symbols.rows st.rows s ∙ row_by_log s
+  row_says s = row-now h d.executions.rows d.symbols.rows st.rows s (row_in s d) refl ∙ row_by_log s
 
   turnover : (s : ℕ) → IsTraded h s (volume_in (row_in s d)) (value_in (row_in s d))
   turnover s = (
@@ -81,13 +81,10 @@ module _ (h : History) (d : Day) (st : Stands h d) where
   stored-all : (w : Execution → ℕ) → sum (unless_marked w) d.executions.rows ≡ sum w (all_traded h)
   stored-all w = sym (sum-those w (λ e. eqb (times_broken e.id h) 0) (fills h) ∙ st.fills.same w)
 
-  few_executions : length d.executions.rows ≤ greatest_limit
-  few_executions = let n = st.fills.count in let c = st.count in let w = st.within in omega arith
-
   market : IsMarket h (market_in d)
   market = (
-    all-shares h d.executions.rows d.symbols.rows st.rows st.fills.narrow few_executions ∙ stored-all (λ e. e.shares),
-    all-worth h d.executions.rows d.symbols.rows st.rows st.fills.narrow few_executions ∙ stored-all execution_worth,
+    all-shares h d.executions.rows d.symbols.rows st.rows st.fills.narrow (few h d st _ st.fills.count) ∙ stored-all (λ e. e.shares),
+    all-worth h d.executions.rows d.symbols.rows st.rows st.fills.narrow (few h d st _ st.fills.count) ∙ stored-all execution_worth,
   )
 
 -- What is logged, a day stands for.
@@ -131,7 +128,7 @@ every_log log d l =
     let st = logged_stands log d l in
     let os = st.orders in
     record {
-      shares_balance = λ s. let b = os.balance s in let r = resting d.orders.rows os.narrow (few_orders (history log) d st) s in omega arith;
+      shares_balance = λ s. let b = os.balance s in let r = resting d.orders.rows os.narrow (few (history log) d st _ os.count) s in omega arith;
       orders_add_up = λ id.
           rw (os.each id)
           (left_over (last_add id (history log)) (since_add id (history log)) id

@@ -1,5 +1,5 @@
 -- All rows together come to all that traded, and no sum of them stops.
-use Rattle.std.proofs.Common.{◌≡◌, ℕ, ◌*◌, ◌≤◌, Bool, true, false, cond, eqb, List, [], ◌∷◌, length, is_some, Some, None, refl, sym, ap, ◌∙◌, arith}
+use Rattle.std.proofs.Common.{◌≡◌, ℕ, ◌*◌, ◌≤◌, true, cond, eqb, List, [], ◌∷◌, length, is_some, Some, refl, ap, ◌∙◌, arith}
 use Rattle.std.proofs.lemmas.Bool.Decides.{nat_tests}
 use Rattle.records.specs.declared.execution.Execution.{Execution}
 use Rattle.records.specs.declared.symbol_row.SymbolRow.{SymbolRow}
@@ -12,7 +12,7 @@ use Rattle.book.specs.Books.{sum, turnover_of}
 use Rattle.day_rules.specs.Days.{greatest_limit}
 use Rattle.day_rules.specs.Rows.{execution_worth}
 use Rattle.day_rules.specs.Words.{History, row_needed}
-use Rattle.day_rules.proofs.Rows.{parted, all-few, shares-most, worth-most, row-held}
+use Rattle.day_rules.proofs.Rows.{parted, all-few, shares-most, worth-most, row-now, row-held}
 use Rattle.day_rules.proofs.Standing.{NarrowFill, unless_marked, if_of, stored, row_stored, RowsStand}
 use Rattle.day_rules.proofs.Sums.{sum-same, sum-both, sum-one, sum-none, each-all, found-own}
 
@@ -35,17 +35,13 @@ module _ (w : Execution → ℕ) (rs : List SymbolRow) (rising : Rising symbol_k
       let rest = by_rows es held.1 in
       omega arith
 
-is_stored : (needed : Bool) (stands r : SymbolRow) → cond needed (Some stands) None ≡ Some r → r ≡ stands
-is_stored true stands r e = cc
-is_stored false stands r e = cc
-
 module _ (h : History) (es : List Execution) (rs : List SymbolRow) (st : RowsStand h es rs) where
   all_held : Each (λ e. holds symbol_key e.symbol rs ≡ true) es
   all_held = each-so (λ e. row_needed e.symbol h ≡ true) (λ e. holds symbol_key e.symbol rs ≡ true) (λ e t. ap is_some (row-held h es rs st e.symbol t)) es st.needed
 
   module _ (says : SymbolRow → ℕ) (w : Execution → ℕ) (tells : (s : ℕ) → says (row_stored s es) ≡ stored w s es) where
     row_tells : (r : SymbolRow) → lookup symbol_key (symbol_key r) rs ≡ Some r → says r ≡ stored w (symbol_key r) es
-    row_tells r found = ap says (is_stored (row_needed (symbol_key r) h) (row_stored (symbol_key r) es) r (sym (st.each (symbol_key r)) ∙ found)) ∙ tells (symbol_key r)
+    row_tells r found = ap says (row-now h es rs st (symbol_key r) (Some r) found) ∙ tells (symbol_key r)
 
     all_rows : sum says rs ≡ sum (unless_marked w) es
     all_rows =

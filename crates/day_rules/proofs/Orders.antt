@@ -6,18 +6,19 @@ use Rattle.std.proofs.lemmas.Bool.Decides.{nat_tests}
 use Rattle.records.specs.declared.order.Order.{Order}
 use Rattle.records.specs.Keys.{order_key}
 use Rattle.store.proofs.Keyed.{lookup_absent}
-use Rattle.store.proofs.Placed.{each_placed, rising-placed, length-placed}
-use Rattle.store.proofs.Lookups.{lookup-inserted, lookup-placed-other, lookup-replaced, lookup-replaced-other, lookup-without-other, lookup-others}
+use Rattle.store.proofs.Placed.{each_placed, length-placed}
+use Rattle.store.proofs.Lookups.{lookup-others}
 use Rattle.store.proofs.Inserting.{absent-unheld}
-use Rattle.store.proofs.Ruling.{found-key, found-each, each-replaced, rising-replaced, length-replaced, each-without, rising-without, lookup-gone, lookup-swept}
+use Rattle.store.proofs.Ruling.{found-key, found-each, each-replaced, length-replaced, each-without, lookup-swept}
 use Rattle.store.proofs.Sweeps.{each-others, rising-others}
-use Rattle.store.specs.Lists.{Each, Rising, lookup, holds, placed, replaced, without, others}
+use Rattle.store.specs.Lists.{Each, lookup, holds, placed, replaced, without, others}
 use Rattle.book.specs.Books.{sum, is_of}
 use Rattle.day_rules.specs.declared.outcome.Outcome.{Outcome}
 use Rattle.day_rules.specs.Events.{Event, clears, adds, executes, cancels, trades, breaks}
 use Rattle.day_rules.specs.Laws.{shares_of}
 use Rattle.day_rules.specs.Rules.{less_shares}
 use Rattle.day_rules.specs.Words.{History, Accepted, or_added, last_add, is_add, since_add, is_clear, clear_among, off_order, brought, off_symbol, if_symbol, reported, taken_off, left_of_add, order_by}
+use Rattle.day_rules.proofs.Changed.{Changed, placing, exchanging, taking, by-key}
 use Rattle.day_rules.proofs.Standing.{NarrowOrder, shares_if, OrdersStand, said, own_key}
 use Rattle.day_rules.proofs.Sums.{sum-placed, sum-replaced, sum-without, length-without, length-others}
 
@@ -162,27 +163,20 @@ module _ (h : History) (os : List Order) (st : OrdersStand h os) (answered : Out
         sym (left_now id x refl skips.0 l ∙ none_taken (λ s. is_clear s e) (off_order id e) x stays none (enough id x refl l))
 
     -- a change of what is found under one ID
-    all-but : (now : List Order) (i : ℕ) → ((s : ℕ) → is_clear s e ≡ false) → lookup order_key i now ≡ order_by i (said e answered ∷ h)
-        → ((j : ℕ) → (i ≡ j → ⊥) → Skips e j × (lookup order_key j now ≡ lookup order_key j os)) → (id : ℕ) → lookup order_key id now ≡ order_by id (said e answered ∷ h)
-    all-but now i stays here there id =
-        ⊎_elim
-        (λ t. subst (λ k. lookup order_key k now ≡ order_by k (said e answered ∷ h)) t here)
-        (λ n. let t = there id n in t.1 ∙ unmoved id t.0 stays)
-        (cases_eq i id)
+    all-but : (i : ℕ) (x : Option Order) (now : List Order) → Changed order_key i x os now → ((s : ℕ) → is_clear s e ≡ false) → x ≡ order_by i (said e answered ∷ h)
+        → ((j : ℕ) → (i ≡ j → ⊥) → Skips e j) → (id : ℕ) → lookup order_key id now ≡ order_by id (said e answered ∷ h)
+    all-but i x now changed stays here skips = by-key order_key i os (λ j y. y ≡ order_by j (said e answered ∷ h)) x now changed here (λ j n. unmoved j (skips j n) stays)
 
   -- an order comes to rest
   pub add-stands : (o : Order) → NarrowOrder o → holds order_key o.id os ≡ false → OrdersStand (said (adds o) answered ∷ h) (placed order_key o os)
   add-stands o fits free =
-      let key = own_key o.id fits.id in
-      let not_held : holds order_key (order_key o) os ≡ false = rw key free in
-      let found : lookup order_key o.id (placed order_key o os) ≡ Some o = ap (λ k. lookup order_key k (placed order_key o os)) (sym key) ∙ lookup-inserted order_key o os not_held in
       let rests : order_by o.id (said (adds o) answered ∷ h) ≡ Some o = rw (eq-eqb o.id o.id refl) (untouched o fits.least) in
+      let changed = placing order_key o.id os st.rising o (own_key o.id fits.id) free in
       record {
-        rising = rising-placed order_key o os (absent-unheld order_key (order_key o) os not_held) st.rising;
+        rising = changed.rising;
         narrow = each_placed order_key NarrowOrder o os fits st.narrow;
         count = let c = st.count in let l = length-placed order_key o os in omega arith;
-        each = all-but (adds o) (placed order_key o os) o.id (λ s. refl) (found ∙ sym rests)
-            (λ j n. ((ne_eqb o.id j n, refl), lookup-placed-other order_key j o os (λ e. n (sym key ∙ e))));
+        each = all-but (adds o) o.id (Some o) (placed order_key o os) changed (λ s. refl) (sym rests) (λ j n. (ne_eqb o.id j n, refl));
         balance = λ s. let b = st.balance s in let p = sum-placed (shares_if s) order_key o os in omega arith;
       }
 
@@ -208,15 +202,13 @@ module _ (h : History) (os : List Order) (st : OrdersStand h os) (answered : Out
     its_left : order_by i (said e answered ∷ h) ≡ left_if false n o
     its_left = left_now e i (Some o) found (takes.adds_none i) (rw here enough) ∙ rw (here, takes.clears_none o.symbol) refl
 
-    taken : (now : List Order) → Rising order_key now → Each NarrowOrder now → length now ≤ length os → lookup order_key i now ≡ left_if false n o
-        → ((j : ℕ) → (i ≡ j → ⊥) → lookup order_key j now ≡ lookup order_key j os) → ((s : ℕ) → sum (shares_if s) now + cond (eqb o.symbol s) n 0 ≡ sum (shares_if s) os)
-        → OrdersStand (said e answered ∷ h) now
-    taken now rising narrow fewer stands there total = record {
-      rising = rising;
+    taken : (x : Option Order) (now : List Order) → Changed order_key i x os now → x ≡ left_if false n o → Each NarrowOrder now → length now ≤ length os
+        → ((s : ℕ) → sum (shares_if s) now + cond (eqb o.symbol s) n 0 ≡ sum (shares_if s) os) → OrdersStand (said e answered ∷ h) now
+    taken x now changed is narrow fewer total = record {
+      rising = changed.rising;
       narrow = narrow;
       count = let c = st.count in omega arith;
-      each = all-but e now i takes.clears_none (stands ∙ sym (its_left))
-          (λ j apart. ((takes.adds_none j, takes.off j ∙ rw (ne_eqb i j apart) refl), there j apart));
+      each = all-but e i x now changed takes.clears_none (is ∙ sym its_left) (λ j apart. (takes.adds_none j, takes.off j ∙ rw (ne_eqb i j apart) refl));
       balance = λ s.
           let b = st.balance s in
           let br = takes.brings_none s in
@@ -231,30 +223,23 @@ module _ (h : History) (os : List Order) (st : OrdersStand h os) (answered : Out
     lessened some =
         let less = less_shares n o in
         let f = fits in
-        let its = its_key in
-        let off = here in
-        let is_held : holds order_key (order_key less) os ≡ true = ap is_some found_by_key in
-        let now : lookup order_key i (replaced order_key less os) ≡ Some less = subst (λ k. lookup order_key k (replaced order_key less os) ≡ Some less) its (lookup-replaced order_key less os is_held) in
-        taken (replaced order_key less os)
-        (rising-replaced order_key less os st.rising)
+        taken (Some less) (replaced order_key less os)
+        (exchanging order_key i os st.rising less its_key (ap is_some found))
+        (rw (ne_eqb n o.shares some) refl)
         (each-replaced order_key NarrowOrder less os (record { id = f.id; symbol = f.symbol; price = f.price; shares = let l = f.shares in omega arith; least = omega arith }) st.narrow)
         (let l = length-replaced order_key less os in omega arith)
-        (now ∙ rw (ne_eqb n o.shares some) refl)
-        (λ j apart. lookup-replaced-other order_key j less os (λ e. apart (sym its ∙ e)))
         (λ s. let t = sum-replaced (shares_if s) order_key less o os found_by_key in grind (arith, nat_tests))
 
     -- the last ones are
     pub emptied : n ≡ o.shares → OrdersStand (said e answered ∷ h) (without order_key o.id os)
     emptied all =
         let its = sym (own_key o.id fits.id) ∙ its_key in
-        let off = here in
         rw its
-        (taken (without order_key i os)
-        (rising-without order_key i os st.rising)
+        (taken None (without order_key i os)
+        (taking order_key i os st.rising)
+        (rw (eq-eqb n o.shares all) refl)
         (each-without order_key NarrowOrder i os st.narrow)
         (length-without order_key i os)
-        (lookup-gone order_key i os st.rising ∙ rw (eq-eqb n o.shares all) refl)
-        (λ j apart. lookup-without-other order_key j i os apart)
         (λ s. let t = sum-without (shares_if s) order_key i o os found in grind (arith, nat_tests)))
 
   -- the orders of a symbol are cleared

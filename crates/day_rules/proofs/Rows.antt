@@ -11,21 +11,21 @@ use Rattle.records.specs.Keys.{execution_key, symbol_key}
 use Rattle.store.specs.Lists.{Each, Rising, lookup, holds, placed, replaced}
 use Rattle.store.specs.Models.{Model, inserted}
 use Rattle.store.proofs.Each.{each-so}
-use Rattle.store.proofs.Inserting.{absent-unheld}
-use Rattle.store.proofs.Lookups.{lookup-inserted, lookup-placed-other, lookup-replaced, lookup-replaced-other}
-use Rattle.store.proofs.Placed.{each_placed, rising-placed, length-placed}
-use Rattle.store.proofs.Ruling.{found-each, each-replaced, rising-replaced}
+use Rattle.store.proofs.Placed.{each_placed, length-placed}
+use Rattle.store.proofs.Ruling.{found-each, each-replaced}
 use Rattle.book.specs.Books.{sum}
 use Rattle.day_rules.specs.Days.{greatest_limit}
+use Rattle.day_rules.specs.Events.{Event, clears, adds, executes, cancels, trades, breaks}
 use Rattle.day_rules.specs.Rows.{row_of, execution_worth, with_execution, without_execution, new_row, row_or_new}
 use Rattle.day_rules.specs.Rules.{is_full, row_put, row_taken, marked}
-use Rattle.day_rules.specs.Events.{Event, clears, adds, executes, cancels, trades, breaks}
 use Rattle.day_rules.specs.Words.{History, or_added, last_add, needs_row, row_needed}
+use Rattle.day_rules.proofs.Changed.{Changed, placing, exchanging, by-key}
 use Rattle.day_rules.proofs.Standing.{NarrowFill, unless_marked, if_of, stored, row_stored, RowsStand, own_key}
 use Rattle.day_rules.proofs.Sums.{each-all, sum-least, sum-most, sum-placed, sum-replaced}
 
 -- What executions come to.
 
+-- equal sums are one row
 pub same-row : (s v v2 w w2 : ℕ) → v ≡ v2 → w ≡ w2 → row_of s v w ≡ row_of s v2 w2
 same-row s v v2 w w2 p q = λ i. row_of s (p i) (q i)
 
@@ -33,6 +33,7 @@ same-row s v v2 w w2 p q = λ i. row_of s (p i) (q i)
 pub parted : (n : ℕ) → n / 10 ^ 16 * 10 ^ 16 + n % 10 ^ 16 ≡ n
 parted n = omega arith
 
+-- the most that one execution counts
 pub shares-most : (e : Execution) → NarrowFill e → e.shares ≤ 999999
 shares-most e n = n.shares
 
@@ -64,13 +65,12 @@ none_stored w s h (e ∷ es) n f =
 
 module _ (h : History) (es : List Execution) (rs : List SymbolRow) (st : RowsStand h es rs) where
   -- a missing row says as much as a new one
-  pub row-now : (s : ℕ) → row_or_new s (lookup symbol_key s rs) ≡ row_stored s es
-  row-now s =
+  pub row-now : (s : ℕ) (x : Option SymbolRow) → lookup symbol_key s rs ≡ x → row_or_new s x ≡ row_stored s es
+  row-now s x is =
+      let stands = sym is ∙ st.each s in
       ⊎_elim
-      (λ t. let is : lookup symbol_key s rs ≡ Some (row_stored s es) = st.each s ∙ rw t refl in ap (row_or_new s) is)
-      (λ t.
-      let is : lookup symbol_key s rs ≡ None = st.each s ∙ rw t refl in
-      ap (row_or_new s) is ∙ same-row s _ _ _ _ (sym (none_stored (λ e. e.shares) s h es st.needed t)) (sym (none_stored execution_worth s h es st.needed t)))
+      (λ t. ap (row_or_new s) (rw t at stands))
+      (λ t. ap (row_or_new s) (rw t at stands) ∙ same-row s _ _ _ _ (sym (none_stored (λ e. e.shares) s h es st.needed t)) (sym (none_stored execution_worth s h es st.needed t)))
       (cases_Bool (row_needed s h))
 
   pub row-held : (s : ℕ) → row_needed s h ≡ true → lookup symbol_key s rs ≡ Some (row_stored s es)
@@ -119,40 +119,17 @@ module _ (e : Execution) (unbroken : e.broken ≡ false) (es : List Execution) w
         same-row e.symbol _ _ _ _ (sym (less_own (λ f. f.shares))) (let now = less_own execution_worth in omega arith)
 
 -- A row put in.
-
--- what is found then
-record Put (m : Model SymbolRow) (r : SymbolRow) (now : List SymbolRow) : Type 0 where
-  rises : Rising symbol_key now
-  found : lookup symbol_key r.symbol now ≡ Some r
-  rest : (j : ℕ) → (r.symbol ≡ j → ⊥) → lookup symbol_key j now ≡ lookup symbol_key j m.rows
-
 module _ (m : Model SymbolRow) (rising : Rising symbol_key m.rows) (r : SymbolRow) (fits : r.symbol < 2 ^ 64) where
-  placing : holds symbol_key r.symbol m.rows ≡ false → is_full m ≡ false → Put m r (inserted symbol_key r m).rows
-  placing free room =
+  joining : holds symbol_key r.symbol m.rows ≡ false → is_full m ≡ false → Changed symbol_key r.symbol (Some r) m.rows (inserted symbol_key r m).rows
+  joining free room =
       let key = own_key r.symbol fits in
       let free_by_key : holds symbol_key (symbol_key r) m.rows ≡ false = rw key free in
-      rw free_by_key
-      (rw room
-      (record {
-        rises = rising-placed symbol_key r m.rows (absent-unheld symbol_key (symbol_key r) m.rows free_by_key) rising;
-        found = subst (λ k. lookup symbol_key k (placed symbol_key r m.rows) ≡ Some r) key (lookup-inserted symbol_key r m.rows free_by_key);
-        rest = λ j n. lookup-placed-other symbol_key j r m.rows (λ e. n (sym key ∙ e));
-      }))
-
-  replaces : holds symbol_key r.symbol m.rows ≡ true → Put m r (replaced symbol_key r m.rows)
-  replaces is_held =
-      let key = own_key r.symbol fits in
-      let held_by_key : holds symbol_key (symbol_key r) m.rows ≡ true = rw key is_held in
-      record {
-        rises = rising-replaced symbol_key r m.rows rising;
-        found = subst (λ k. lookup symbol_key k (replaced symbol_key r m.rows) ≡ Some r) key (lookup-replaced symbol_key r m.rows held_by_key);
-        rest = λ j n. lookup-replaced-other symbol_key j r m.rows (λ e. n (sym key ∙ e));
-      }
+      rw free_by_key (rw room (placing symbol_key r.symbol m.rows rising r key free))
 
   -- over the row that there is, or where there is room for one
-  put : (x : Option SymbolRow) → lookup symbol_key r.symbol m.rows ≡ x → (not (is_some x) && is_full m) ≡ false → Put m r (row_put x r m).rows
-  put (Some old) is room = replaces (ap is_some is)
-  put None is room = placing (ap is_some is) room
+  put : (x : Option SymbolRow) → lookup symbol_key r.symbol m.rows ≡ x → (not (is_some x) && is_full m) ≡ false → Changed symbol_key r.symbol (Some r) m.rows (row_put x r m).rows
+  put (Some old) is room = exchanging symbol_key r.symbol m.rows rising r (own_key r.symbol fits) (ap is_some is)
+  put None is room = joining (ap is_some is) room
 
 -- A message that needs no row but the symbol's.
 module _ (h now_h : History) (s : ℕ) (small : s < 2 ^ 64) (needs : (j : ℕ) → row_needed j now_h ≡ (eqb s j || row_needed j h)) where
@@ -164,15 +141,13 @@ module _ (h now_h : History) (s : ℕ) (small : s < 2 ^ 64) (needs : (j : ℕ) �
 
   module _ (es : List Execution) (m : Model SymbolRow) (st : RowsStand h es m.rows) where
     changed : (now_es : List Execution) → Each (λ e. row_needed e.symbol now_h ≡ true) now_es → ((j : ℕ) → (s ≡ j → ⊥) → row_stored j now_es ≡ row_stored j es)
-        → (now : List SymbolRow) → Put m (row_stored s now_es) now → RowsStand now_h now_es now
-    changed now_es needed same now p = record {
-      rising = p.rises;
+        → (now : List SymbolRow) → Changed symbol_key s (Some (row_stored s now_es)) m.rows now → RowsStand now_h now_es now
+    changed now_es needed same now c = record {
+      rising = c.rising;
       needed = needed;
-      each = λ j.
-          ⊎_elim
-          (λ e. subst (λ k. lookup symbol_key k now ≡ cond (row_needed k now_h) (Some (row_stored k now_es)) None) e (p.found ∙ rw needed_own refl))
-          (λ n. p.rest j n ∙ st.each j ∙ rw (needs j, ne_eqb s j n, same j n) refl)
-          (cases_eq s j);
+      each = by-key symbol_key s m.rows (λ j x. x ≡ cond (row_needed j now_h) (Some (row_stored j now_es)) None) (Some (row_stored s now_es)) now c
+          (rw needed_own refl)
+          (λ j n. st.each j ∙ rw (needs j, ne_eqb s j n, same j n) refl);
     }
 
     all_needed : Each (λ e. row_needed e.symbol now_h ≡ true) es
@@ -180,14 +155,12 @@ module _ (h now_h : History) (s : ℕ) (small : s < 2 ^ 64) (needs : (j : ℕ) �
 
     -- an add: a row stands for its symbol
     module _ (room : (not (holds symbol_key s m.rows) && is_full m) ≡ false) where
-      now_new : (x : Option SymbolRow) → lookup symbol_key s m.rows ≡ x → row_or_new s x ≡ row_stored s es
-      now_new x is = sym (ap (row_or_new s) is) ∙ row-now h es m.rows st s
-
-      standing : (x : Option SymbolRow) → lookup symbol_key s m.rows ≡ x → (not (is_some x) && is_full m) ≡ false → Put m (row_stored s es) (inserted symbol_key (new_row s) m).rows
+      standing : (x : Option SymbolRow) → lookup symbol_key s m.rows ≡ x → (not (is_some x) && is_full m) ≡ false → Changed symbol_key s (Some (row_stored s es)) m.rows (inserted symbol_key (new_row s) m).rows
       standing (Some r) is left =
           let is_held : holds symbol_key (symbol_key (new_row s)) m.rows ≡ true = rw (own_key s small) (ap is_some is) in
-          rw is_held (record { rises = st.rising; found = is ∙ ap Some (now_new (Some r) is); rest = λ j n. refl })
-      standing None is left = subst (λ q. Put m q (inserted symbol_key (new_row s) m).rows) (now_new None is) (placing m st.rising (new_row s) small (ap is_some is) left)
+          rw is_held (record { rising = st.rising; found = is ∙ ap Some (row-now h es m.rows st s (Some r) is); rest = λ j n. refl })
+      standing None is left =
+          subst (λ q. Changed symbol_key s (Some q) m.rows (inserted symbol_key (new_row s) m).rows) (row-now h es m.rows st s None is) (joining m st.rising (new_row s) small (ap is_some is) left)
 
       pub add-rows : RowsStand now_h es (inserted symbol_key (new_row s) m).rows
       add-rows = changed es all_needed (λ j n. refl) _ (standing (lookup symbol_key s m.rows) refl room)
@@ -202,7 +175,7 @@ module _ (h now_h : History) (e : Execution) (unbroken : e.broken ≡ false) (fi
       let more = placed execution_key e es in
       let count : length more ≤ greatest_limit = (let l = length-placed execution_key e es in omega arith) in
       let r : with_execution e (row_or_new e.symbol found) ≡ row_stored e.symbol more =
-      ap (with_execution e) (row-now h es m.rows st e.symbol) ∙ one_more e unbroken es (each_placed execution_key NarrowFill e es fits narrow) count in
+      ap (with_execution e) (row-now h es m.rows st e.symbol found refl) ∙ one_more e unbroken es (each_placed execution_key NarrowFill e es fits narrow) count in
       subst (λ q. RowsStand now_h more (row_put found q m).rows) (sym r)
       (changed h now_h e.symbol fits.symbol needs es m st more
       (each_placed execution_key (λ f. row_needed f.symbol now_h ≡ true) e es (needed_own h now_h e.symbol fits.symbol needs) (all_needed h now_h e.symbol fits.symbol needs es m st))
@@ -222,7 +195,7 @@ module _ (h now_h : History) (e : Execution) (unbroken : e.broken ≡ false) (fi
       (each-replaced execution_key (λ f. row_needed f.symbol now_h ≡ true) (marked e) es (needed_own h now_h e.symbol fits.symbol needs) (all_needed h now_h e.symbol fits.symbol needs es m st))
       (rows_less e unbroken es found)
       _
-      (replaces m st.rising (row_stored e.symbol now_es) fits.symbol (ap is_some its_row))))
+      (exchanging symbol_key e.symbol m.rows st.rising (row_stored e.symbol now_es) (own_key e.symbol fits.symbol) (ap is_some its_row))))
 
 -- Which rows a message needs.
 

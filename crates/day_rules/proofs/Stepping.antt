@@ -41,8 +41,9 @@ spared-by-break : (x : ℕ) → Spares (breaks x)
 spared-by-break x = record { skips = λ id. (refl, refl); clears_none = λ s. refl; brings_none = λ s. refl; reports_none = λ s a. refl; off_none = λ s h. refl }
 
 module _ (h : History) (d : Day) (st : Stands h d) where
-  pub few_orders : length d.orders.rows ≤ greatest_limit
-  few_orders = let n = st.orders.count in let c = st.count in let w = st.within in omega arith
+  -- there are no more records than messages
+  pub few : (n : ℕ) → n ≤ length h → n ≤ greatest_limit
+  few n l = let c = st.count in let w = st.within in omega arith
 
 module _ (h : History) (d : Day) (st : Stands h d) (room : d.accepted < d.day_limit) where
   -- the orders, the executions and the rows stand, each for itself
@@ -60,7 +61,7 @@ module _ (h : History) (d : Day) (st : Stands h d) (room : d.accepted < d.day_li
   after_clear : (c : ℕ) → Stands (said (clears c) (cleared c d) ∷ h) (counted (after (clears c) d))
   after_clear c =
       stand (clears c) (cleared c d) (after (clears c) d) refl refl
-      (clear-stands h d.orders.rows st.orders (cleared c d) c (clear_reports d.orders.rows st.orders.narrow (few_orders h d st) c))
+      (clear-stands h d.orders.rows st.orders (cleared c d) c (clear_reports d.orders.rows st.orders.narrow (few h d st _ st.orders.count) c))
       (pass-stands h d.executions.rows st.fills (cleared c d) (clears c) (λ x. refl) refl)
       (pass-rows h _ d.executions.rows d.symbols.rows (λ j. refl) st.rows)
 
