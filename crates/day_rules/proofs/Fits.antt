@@ -17,14 +17,14 @@ use Rattle.messages.proofs.Judging.{Judged, judged}
 use Rattle.day_rules.specs.Events.{event_of}
 use Rattle.day_rules.proofs.Standing.{EventFits}
 
--- the greatest that a slot spells
+-- how small and how great a number that a slot spells can be
 abbrev Bounded : Slot → ℕ → Type 0
-Bounded (number base count low high) v = v ≤ high
+Bounded (number base count low high) v = (low ≤ v) × (v ≤ high)
 Bounded (text class least w whole) v = v < 256 ^ (w + (whole - w))
 Bounded (choice letters) v = Unit {0}
 
 bounded : (s : Slot) (p : List ℕ) (v : ℕ) → Spells s p v → Bounded s v
-bounded (number base count low high) p v h = h.most
+bounded (number base count low high) p v h = (h.least, h.most)
 bounded (text class least w whole) p v h =
     let pad = replicate (whole - w) 32 in
     let under : AllBelowBase 256 p = subst (AllBelowBase 256) (sym h.split) (under-padded class h.name h.spaces h.inside) in
@@ -44,12 +44,12 @@ within (f ∷ fs) xs (v ∷ vs) l = (bounded f.slot _ v l.0, within fs xs vs l.1
 
 narrow : (t : MessageType) (vs : List ℕ) → Within (layout_of t) (λ i. get_or vs i 0) → EventFits (event_of (message_of (t, vs)))
 narrow SymbolClear vs h = h.1.1.0
-narrow AddShort vs h = let b = h.1.1 in record { id = omega arith; symbol = b.1.1.1.0; price = b.1.1.1.1.0; shares = b.1.1.0 }
-narrow AddLong vs h = let b = h.1.1 in record { id = omega arith; symbol = b.1.1.1.0; price = b.1.1.1.1.0; shares = b.1.1.0 }
-narrow OrderExecuted vs h = let b = h.1.1 in (omega arith, b.1.0, omega arith)
+narrow AddShort vs h = let b = h.1.1 in record { id = omega arith; symbol = b.1.1.1.0; price = b.1.1.1.1.0.1; shares = b.1.1.0.1; least = b.1.1.0.0 }
+narrow AddLong vs h = let b = h.1.1 in record { id = omega arith; symbol = b.1.1.1.0; price = b.1.1.1.1.0.1; shares = b.1.1.0.1; least = b.1.1.0.0 }
+narrow OrderExecuted vs h = let b = h.1.1 in (omega arith, b.1.0.1, omega arith)
 narrow OrderCancel vs h = omega arith
-narrow TradeShort vs h = let b = h.1.1 in (record { id = omega arith; symbol = b.1.1.1.0; price = b.1.1.1.1.0; shares = b.1.1.0 }, refl)
-narrow TradeLong vs h = let b = h.1.1 in (record { id = omega arith; symbol = b.1.1.1.0; price = b.1.1.1.1.0; shares = b.1.1.0 }, refl)
+narrow TradeShort vs h = let b = h.1.1 in (record { id = omega arith; symbol = b.1.1.1.0; price = b.1.1.1.1.0.1; shares = b.1.1.0.1 }, refl)
+narrow TradeLong vs h = let b = h.1.1 in (record { id = omega arith; symbol = b.1.1.1.0; price = b.1.1.1.1.0.1; shares = b.1.1.0.1 }, refl)
 narrow TradeBreak vs h = omega arith
 
 judged_fits : (xs : List ℕ) (r : Result (MessageType × List ℕ) MessageFault) (m : Message) → Judged xs r → as_message r ≡ Ok m → EventFits (event_of m)

@@ -1,8 +1,11 @@
+pub mod Changed
 pub mod Depths
 pub mod Fills
 pub mod Fits
 pub mod Logs
+pub mod Market
 pub mod Orders
+pub mod Refusing
 pub mod Rows
 pub mod Standing
 pub mod Stepping

@@ -1,6 +1,6 @@
 -- Every log adds up, as what it stands for does.
-use Rattle.std.proofs.Common.{◌≡◌, ℕ, ◌≤◌, cond, leb, List, [], ◌∷◌, Some, None, Ok, Err, Option, Result, refl, sym, ◌∙◌, arith}
-use Rattle.std.proofs.lemmas.Bool.{leb-false}
+use Rattle.std.proofs.Common.{◌≡◌, ℕ, ◌≤◌, cond, eqb, leb, List, [], ◌∷◌, Some, None, Ok, Err, Option, Result, refl, sym, ap, ◌∙◌, ⊎_elim, arith}
+use Rattle.std.proofs.lemmas.Bool.{cases_Bool, eqb-true, leb-false}
 use Rattle.std.proofs.lemmas.Bool.Decides.{nat_tests}
 use Rattle.messages.specs.declared.fault.MessageFault.{MessageFault}
 use Rattle.messages.specs.declared.message.Message.{Message}
@@ -8,36 +8,48 @@ use Rattle.messages.specs.Telling.{line_message}
 use Rattle.records.specs.declared.order.Order.{Order}
 use Rattle.records.specs.declared.execution.Execution.{Execution}
 use Rattle.records.specs.declared.symbol_row.SymbolRow.{SymbolRow}
-use Rattle.records.specs.Keys.{execution_key, row_worth}
+use Rattle.records.specs.Keys.{order_key, execution_key, row_worth}
 use Rattle.store.specs.Lists.{lookup}
+use Rattle.store.proofs.Ruling.{found-each}
 use Rattle.book.specs.Books.{sum}
 use Rattle.day_rules.specs.declared.fault.LedgerFault.{LedgerFault}
 use Rattle.day_rules.specs.Days.{Day}
 use Rattle.day_rules.specs.Events.{event_of}
-use Rattle.day_rules.specs.Laws.{IsLeft, shares_of, volume_in, value_in, EveryLog}
+use Rattle.day_rules.specs.Laws.{IsLeftOf, IsTraded, IsMarket, shares_of, volume_in, value_in, EveryLog}
 use Rattle.day_rules.specs.Log.{Log, IsOpening, Logged, told, asked}
-use Rattle.day_rules.specs.Rows.{execution_worth}
-use Rattle.day_rules.specs.Rules.{order_in, row_in, allowed, permitted, outcome, after, counted, or_refused, or_same, message_answer, message_after, answer, next}
-use Rattle.day_rules.specs.Words.{History, history, fills, counts_for, traded}
+use Rattle.day_rules.specs.Questions.{market_in}
+use Rattle.day_rules.specs.Rows.{execution_worth, row_of, row_or_new}
+use Rattle.day_rules.specs.Rules.{less_shares, row_in, allowed, permitted, outcome, after, counted, or_refused, or_same, message_answer, message_after, answer, next}
+use Rattle.day_rules.specs.Words.{History, history, last_add, since_add, clear_among, taken_off, left_of_add, fills, counts_for, traded, times_broken, volume_of, value_of, all_traded}
 use Rattle.day_rules.proofs.Depths.{resting}
 use Rattle.day_rules.proofs.Fits.{line-fits}
-use Rattle.day_rules.proofs.Standing.{OrderStands, broken_times, unless_broken, unless_marked, if_of, in_row, Stands}
-use Rattle.day_rules.proofs.Stepping.{passed, few_orders, step}
+use Rattle.day_rules.proofs.Standing.{NarrowOrder, broken_times, unless_broken, unless_marked, if_of, stored, row_stored, Stands}
+use Rattle.day_rules.proofs.Market.{all-shares, all-worth}
+use Rattle.day_rules.proofs.Rows.{same-row, parted, row-now}
+use Rattle.day_rules.proofs.Stepping.{passed, few, step}
 use Rattle.day_rules.proofs.Sums.{sum-same, sum-those, each-all}
 
 -- What a day stands for adds up.
 
-left_of : (h : History) (id : ℕ) (x : Option Order) → OrderStands h id x → IsLeft h id (shares_of x)
-left_of h id None l = l
-left_of h id (Some o) r = let clear = r.no_clear in rw r.last ((λ e. cc), (λ e. r.left))
+-- an order that is left as the log says adds up
+left_over : (last : Option Order) (since : History) (id : ℕ) → ((o : Order) → left_of_add last since id ≡ Some o → 1 ≤ o.shares) → IsLeftOf last since id (shares_of (left_of_add last since id))
+left_over None since id some = refl
+left_over (Some o) since id some =
+    ⊎_elim
+    (λ t. rw t ((λ e. refl), (λ e. cc)))
+    (λ t. rw t (⊎_elim
+    (λ u. rw u ((λ e. cc), (λ e. let same = eqb-true (taken_off id since) o.shares u in omega arith)))
+    (λ u. rw u ((λ e. cc), (λ e. let l = some (less_shares (taken_off id since) o) (rw (t, u) refl) in omega arith)))
+    (cases_Bool (eqb (taken_off id since) o.shares))))
+    (cases_Bool (clear_among o.symbol since))
 
-volume_in_row : (x : Option SymbolRow) → volume_in x ≡ in_row (λ r. r.volume) x
-volume_in_row None = refl
-volume_in_row (Some r) = refl
+volume_in_row : (s : ℕ) (x : Option SymbolRow) → volume_in x ≡ (row_or_new s x).volume
+volume_in_row s None = refl
+volume_in_row s (Some r) = refl
 
-value_in_row : (x : Option SymbolRow) → value_in x ≡ in_row row_worth x
-value_in_row None = refl
-value_in_row (Some r) = refl
+value_in_row : (s : ℕ) (x : Option SymbolRow) → value_in x ≡ row_worth (row_or_new s x)
+value_in_row s None = refl
+value_in_row s (Some r) = refl
 
 once : (x : Option Execution) → broken_times x ≤ 1
 once None = omega arith
@@ -47,11 +59,33 @@ module _ (h : History) (d : Day) (st : Stands h d) where
   counted_so : (w : Execution → ℕ) (s : ℕ) (e : Execution) → cond (counts_for s h e) (w e) 0 ≡ unless_broken (if_of w s) h e
   counted_so w s e = grind (arith, nat_tests)
 
-  traded-sum : (w : Execution → ℕ) (s : ℕ) → sum w (traded s h) ≡ sum (unless_marked (if_of w s)) d.executions.rows
-  traded-sum w s =
-      sum-those w (counts_for s h) (fills h)
+  stored-traded : (w : Execution → ℕ) (s : ℕ) → stored w s d.executions.rows ≡ sum w (traded s h)
+  stored-traded w s =
+      sym
+      (sum-those w (counts_for s h) (fills h)
       ∙ sum-same (λ e. cond (counts_for s h e) (w e) 0) (unless_broken (if_of w s) h) (fills h) (each-all _ (counted_so w s) (fills h))
-      ∙ st.fills.same (if_of w s)
+      ∙ st.fills.same (if_of w s))
+
+  row_by_log : (s : ℕ) → row_stored s d.executions.rows ≡ row_of s (volume_of s h) (value_of s h)
+  row_by_log s = same-row s _ _ _ _ (stored-traded (λ e. e.shares) s) (stored-traded execution_worth s)
+
+  row_says : (s : ℕ) → row_or_new s (row_in s d) ≡ row_of s (volume_of s h) (value_of s h)
+  row_says s = row-now h d.executions.rows d.symbols.rows st.rows s (row_in s d) refl ∙ row_by_log s
+
+  turnover : (s : ℕ) → IsTraded h s (volume_in (row_in s d)) (value_in (row_in s d))
+  turnover s = (
+    volume_in_row s (row_in s d) ∙ ap (λ r. r.volume) (row_says s),
+    value_in_row s (row_in s d) ∙ ap row_worth (row_says s) ∙ parted (value_of s h),
+  )
+
+  stored-all : (w : Execution → ℕ) → sum (unless_marked w) d.executions.rows ≡ sum w (all_traded h)
+  stored-all w = sym (sum-those w (λ e. eqb (times_broken e.id h) 0) (fills h) ∙ st.fills.same w)
+
+  market : IsMarket h (market_in d)
+  market = (
+    all-shares h d.executions.rows d.symbols.rows st.rows st.fills.narrow (few h d st _ st.fills.count) ∙ stored-all (λ e. e.shares),
+    all-worth h d.executions.rows d.symbols.rows st.rows st.fills.narrow (few h d st _ st.fills.count) ∙ stored-all execution_worth,
+  )
 
 -- What is logged, a day stands for.
 
@@ -64,8 +98,8 @@ opened d o =
       day_limit = limit;
       within = omega arith;
       orders = rw o.orders (record { rising = tt; narrow = tt; count = omega arith; each = λ id. refl; balance = λ s. refl });
-      fills = rw o.executions (record { rising = tt; narrow = tt; count = omega arith; marks = λ x. refl; same = λ w. refl });
-      rows = rw (o.executions, o.symbols) (record { rising = tt; narrow = tt; volume = λ s. refl; value = λ s. refl });
+      fills = rw o.executions (record { rising = tt; narrow = tt; count = omega arith; each = λ x. record { times = refl; is = refl }; same = λ w. refl });
+      rows = rw (o.executions, o.symbols) (record { rising = tt; needed = tt; each = λ s. refl });
     }
 
 module _ (line : List ℕ) (log : Log) (d : Day) (st : Stands (history log) d) where
@@ -94,11 +128,16 @@ every_log log d l =
     let st = logged_stands log d l in
     let os = st.orders in
     record {
-      shares_balance = λ s. let b = os.balance s in let r = resting d.orders.rows os.narrow (few_orders (history log) d st) s in omega arith;
-      orders_add_up = λ id. left_of (history log) id (order_in id d) (os.each id);
-      turnover_adds_up = λ s. (
-        volume_in_row (row_in s d) ∙ st.rows.volume s ∙ sym (traded-sum (history log) d st (λ e. e.shares) s),
-        value_in_row (row_in s d) ∙ st.rows.value s ∙ sym (traded-sum (history log) d st execution_worth s),
-      );
-      none_broken_twice = λ x. rw (st.fills.marks x) (once (lookup execution_key x d.executions.rows));
+      shares_balance = λ s. let b = os.balance s in let r = resting d.orders.rows os.narrow (few (history log) d st _ os.count) s in omega arith;
+      orders_add_up = λ id.
+          rw (os.each id)
+          (left_over (last_add id (history log)) (since_add id (history log)) id
+          (λ o is. (found-each order_key NarrowOrder id d.orders.rows o os.narrow (os.each id ∙ is)).least));
+      turnover_adds_up = turnover (history log) d st;
+      none_broken_twice = λ x. rw ((st.fills.each x).times) (once (lookup execution_key x d.executions.rows));
+      orders_as_added = os.each;
+      executions_as_accepted = λ x. (st.fills.each x).is;
+      rows_as_traded = λ s. st.rows.each s ∙ rw (row_by_log (history log) d st s) refl;
+      market_adds_up = market (history log) d st;
+      accepted_are_counted = st.count;
     }

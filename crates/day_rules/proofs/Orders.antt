@@ -1,29 +1,26 @@
 -- What each accepted message leaves of the orders.
-use Rattle.std.proofs.Common.{◌≡◌, ℕ, ◌+◌, ◌≤◌, Bool, true, false, cond, eqb, ◌||◌, List, [], ◌∷◌, length, is_some, Some, None, Option, refl, sym, ap, ◌∙◌, subst, ⊎_elim, arith}
+use Rattle.std.proofs.Common.{◌≡◌, ℕ, ◌+◌, ◌-◌, ◌≤◌, Bool, true, false, cond, eqb, ◌||◌, List, [], ◌∷◌, length, is_some, Some, None, Option, refl, sym, ap, ◌∙◌, subst, ⊎_elim, arith}
+use Rattle.std.proofs.Math.Bool.{or-true}
 use Rattle.std.proofs.lemmas.Bool.{cases_eq, cases_Bool, ne_eqb, eq-eqb, eqb-true, eqb-false}
 use Rattle.std.proofs.lemmas.Bool.Decides.{nat_tests}
 use Rattle.records.specs.declared.order.Order.{Order}
 use Rattle.records.specs.Keys.{order_key}
 use Rattle.store.proofs.Keyed.{lookup_absent}
-use Rattle.store.proofs.Placed.{each_placed, rising-placed, length-placed}
-use Rattle.store.proofs.Lookups.{lookup-inserted, lookup-placed-other, lookup-replaced, lookup-replaced-other, lookup-without-other, lookup-others}
+use Rattle.store.proofs.Placed.{each_placed, length-placed}
+use Rattle.store.proofs.Lookups.{lookup-others}
 use Rattle.store.proofs.Inserting.{absent-unheld}
-use Rattle.store.proofs.Ruling.{found-key, found-each, each-replaced, rising-replaced, length-replaced, each-without, rising-without, lookup-gone, lookup-swept}
+use Rattle.store.proofs.Ruling.{found-key, found-each, each-replaced, length-replaced, each-without, lookup-swept}
 use Rattle.store.proofs.Sweeps.{each-others, rising-others}
-use Rattle.store.specs.Lists.{Each, Rising, lookup, holds, placed, replaced, without, others}
+use Rattle.store.specs.Lists.{Each, lookup, holds, placed, replaced, without, others}
 use Rattle.book.specs.Books.{sum, is_of}
 use Rattle.day_rules.specs.declared.outcome.Outcome.{Outcome}
 use Rattle.day_rules.specs.Events.{Event, clears, adds, executes, cancels, trades, breaks}
-use Rattle.day_rules.specs.Laws.{IsLeft, IsLeftOf}
+use Rattle.day_rules.specs.Laws.{shares_of}
 use Rattle.day_rules.specs.Rules.{less_shares}
-use Rattle.day_rules.specs.Words.{History, Accepted, or_added, last_add, is_add, since_add, is_clear, clear_among, off_order, brought, off_symbol, if_symbol, reported}
-use Rattle.day_rules.proofs.Standing.{NarrowOrder, Resting, OrderStands, shares_if, OrdersStand, said, own_key}
+use Rattle.day_rules.specs.Words.{History, Accepted, or_added, last_add, is_add, since_add, is_clear, clear_among, off_order, brought, off_symbol, if_symbol, reported, taken_off, left_of_add, order_by}
+use Rattle.day_rules.proofs.Changed.{Changed, placing, exchanging, taking, by-key}
+use Rattle.day_rules.proofs.Standing.{NarrowOrder, shares_if, OrdersStand, said, own_key}
 use Rattle.day_rules.proofs.Sums.{sum-placed, sum-replaced, sum-without, length-without, length-others}
-
--- neither of two tests
-neither : (p q : Bool) → (p || q) ≡ false → (p ≡ false) × (q ≡ false)
-neither true q e = cc
-neither false q e = (refl, e)
 
 -- One order.
 
@@ -36,62 +33,90 @@ unadded id (cancels i m) earlier n = refl
 unadded id (trades e) earlier n = refl
 unadded id (breaks x) earlier n = refl
 
+-- what is left of an order, if its symbol is not cleared, after so many shares are taken off
+abbrev left_if : Bool → ℕ → Order → Option Order
+left_if gone n o = cond (gone || eqb n o.shares) None (Some (less_shares n o))
+
+abbrev left_after : (ℕ → Bool) → ℕ → Option Order → Option Order
+left_after cleared n None = None
+left_after cleared n (Some o) = left_if (cleared o.symbol) n o
+
+-- so many shares are there, and at least one if there is an order
+abbrev Enough : ℕ → Option Order → Type 0
+Enough n None = n ≡ 0
+Enough n (Some o) = (1 ≤ o.shares) × (n ≤ o.shares)
+
+-- the same order with so many shares
+same_but_shares : (o : Order) (m n : ℕ) → o.shares - m ≡ n → less_shares m o ≡ record { id = o.id; symbol = o.symbol; price = o.price; shares = n; side = o.side; display = o.display }
+same_but_shares o m n e = λ i. record { id = o.id; symbol = o.symbol; price = o.price; shares = e i; side = o.side; display = o.display }
+
+-- nothing is taken off
+untouched : (o : Order) → 1 ≤ o.shares → left_if false 0 o ≡ Some o
+untouched o l = rw (ne_eqb 0 o.shares (omega arith)) (ap Some (same_but_shares o 0 o.shares (omega arith)))
+
+none_taken : (cleared : ℕ → Bool) (n : ℕ) (x : Option Order) → ((s : ℕ) → cleared s ≡ false) → n ≡ 0 → Enough n x → left_after cleared n x ≡ x
+none_taken cleared n None c z e = refl
+none_taken cleared n (Some o) c z e = rw (c o.symbol, z) (untouched o e.0)
+
+-- taken off one after the other, or all at once
+both_taken : (later : Bool) (m n : ℕ) (o : Order) → n + m ≤ o.shares → 1 ≤ o.shares - m → left_if (later || false) (n + m) o ≡ left_if later n (less_shares m o)
+both_taken true m n o e l = refl
+both_taken false m n o e l =
+    ⊎_elim
+    (λ t. rw (eq-eqb (n + m) o.shares (omega arith), eq-eqb n (o.shares - m) t) refl)
+    (λ t. rw (ne_eqb (n + m) o.shares (omega arith), ne_eqb n (o.shares - m) t) (ap Some (same_but_shares o (n + m) (o.shares - m - n) (omega arith))))
+    (cases_eq n (o.shares - m))
+
+one_by_one : (later : ℕ → Bool) (gone : Bool) (m n : ℕ) (o : Order) → Enough n (left_if gone m o) → left_if (later o.symbol || gone) (n + m) o ≡ left_after later n (left_if gone m o)
+one_by_one later gone m n o e =
+    ⊎_elim
+    (λ t. rw t (rw (or-true (later o.symbol)) refl))
+    (λ t.
+    let f = rw t at e in
+    ⊎_elim
+    (λ u. let none = rw u at f in let all = eqb-true m o.shares u in rw (t, u) (rw (eq-eqb (n + m) o.shares (omega arith), or-true (later o.symbol || false)) refl))
+    (λ u.
+    let g = rw u at f in
+    let more : 1 ≤ o.shares - m = g.0 in
+    let enough : n ≤ o.shares - m = g.1 in
+    rw (t, u) (both_taken (later o.symbol) m n o (omega arith) more))
+    (cases_Bool (eqb m o.shares)))
+    (cases_Bool gone)
+
+-- a message that adds no order of the ID takes its shares off what was left
 module _ (h : History) (a : Accepted) (id : ℕ) (none : is_add id a.event ≡ false) where
-  since : since_add id (a ∷ h) ≡ a ∷ since_add id h
-  since = rw none refl
+  abbrev later : Option Order → Option Order
+  later x = left_after (λ s. is_clear s a.event) (off_order id a.event) x
 
-  -- an order that rests on, with so many shares less
-  moved : (o p : Order) → p.id ≡ o.id → p.symbol ≡ o.symbol → p.price ≡ o.price → p.shares + off_order id a.event ≡ o.shares → is_clear o.symbol a.event ≡ false
-      → Resting h id o → Resting (a ∷ h) id p
-  moved o p i s c n stays r = record {
-    added = r.added;
-    last = unadded id a.event (last_add id h) none ∙ r.last;
-    same_id = i ∙ r.same_id;
-    same_symbol = r.same_symbol ∙ sym s;
-    same_price = r.same_price ∙ sym c;
-    no_clear = let t = r.no_clear in let q : is_clear r.added.symbol a.event ≡ false = rw r.same_symbol stays in rw since (rw q t);
-    left = let t = r.left in rw since (omega arith);
-  }
+  since_last : (last : Option Order) (since : History) → Enough (off_order id a.event) (left_of_add last since id) → left_of_add last (a ∷ since) id ≡ later (left_of_add last since id)
+  since_last None since e = refl
+  since_last (Some o) since e = one_by_one (λ s. is_clear s a.event) (clear_among o.symbol since) (taken_off id since) (off_order id a.event) o e
 
-  -- none under the ID, and what the message takes off it is nothing
-  still_none : (last : Option Order) (earlier : History) → off_order id a.event ≡ 0 → IsLeftOf last earlier id 0 → IsLeftOf last (a ∷ earlier) id 0
-  still_none None earlier z l = l
-  still_none (Some o) earlier z l = (
-    (λ e. refl),
-    (λ e. let left = l.1 (neither (is_clear o.symbol a.event) (clear_among o.symbol earlier) e).1 in omega arith),
-  )
+  left_later : Enough (off_order id a.event) (order_by id h) → order_by id (a ∷ h) ≡ later (order_by id h)
+  left_later e = let last = unadded id a.event (last_add id h) none in rw (last, none) (since_last (last_add id h) (since_add id h) e)
 
-  -- one that is gone: all of it is taken off, or it is cleared
-  gone : (o : Order) → (is_clear o.symbol a.event ≡ false → off_order id a.event ≡ o.shares) → Resting h id o → IsLeft (a ∷ h) id 0
-  gone o g r =
-      let last = unadded id a.event (last_add id h) none ∙ r.last in
-      let l = r.left in
-      rw (last, since) (
-        (λ e. refl),
-        (λ e. let off = g (rw r.same_symbol at (neither (is_clear r.added.symbol a.event) (clear_among r.added.symbol (since_add id h)) e).0) in omega arith),
-      )
+-- an order that rests: as its last accepted add had it, less what was taken off since
+pub record Resting (h : History) (id : ℕ) (o : Order) : Type 0 where
+  pub added : Order
+  pub last : last_add id h ≡ Some added
+  pub less : o ≡ less_shares (taken_off id (since_add id h)) added
 
-  -- one that the message does not speak of
-  unmoved : off_order id a.event ≡ 0 → ((s : ℕ) → is_clear s a.event ≡ false) → (x : Option Order) → OrderStands h id x → OrderStands (a ∷ h) id x
-  unmoved z stays None l = let last = unadded id a.event (last_add id h) none in rw (last, since) (still_none (last_add id h) (since_add id h) z l)
-  unmoved z stays (Some o) r = moved o o refl refl refl (omega arith) (stays o.symbol) r
+is_left : (gone : Bool) (p o : Order) → cond gone None (Some p) ≡ Some o → o ≡ p
+is_left true p o e = cc
+is_left false p o e = cc
+
+pub rests-by : (h : History) (id : ℕ) (o : Order) → order_by id h ≡ Some o → Resting h id o
+rests-by h id o e = by_last (last_add id h) refl e
+  where
+    by_last : (last : Option Order) → last_add id h ≡ last → left_of_add last (since_add id h) id ≡ Some o → Resting h id o
+    by_last None l e = cc
+    by_last (Some p) l e = record { added = p; last = l; less = is_left _ (less_shares (taken_off id (since_add id h)) p) o e }
 
 -- All orders.
 
 -- a message that says nothing of an ID's order
 abbrev Skips : Event → ℕ → Type 0
 Skips e id = (is_add id e ≡ false) × (off_order id e ≡ 0)
-
--- a change of what is found under one ID
-module _ (h : History) (a : Accepted) (stays : (s : ℕ) → is_clear s a.event ≡ false) (was now : List Order)
-    (each : (id : ℕ) → OrderStands h id (lookup order_key id was)) where
-  all-but : (i : ℕ) → OrderStands (a ∷ h) i (lookup order_key i now) → ((j : ℕ) → (i ≡ j → ⊥) → Skips a.event j × (lookup order_key j now ≡ lookup order_key j was))
-      → (id : ℕ) → OrderStands (a ∷ h) id (lookup order_key id now)
-  all-but i here there id =
-      ⊎_elim
-      (λ e. subst (λ k. OrderStands (a ∷ h) k (lookup order_key k now)) e here)
-      (λ n. let t = there id n in rw t.1 (unmoved h a id t.0.0 t.0.1 stays (lookup order_key id was) (each id)))
-      (cases_eq i id)
 
 -- a message that takes so many shares off an order, and does nothing else to orders
 pub record Takes (i n : ℕ) (e : Event) : Type 0 where
@@ -116,34 +141,48 @@ others_of c s [] = grind (arith, nat_tests)
 others_of c s (o ∷ os) = grind (arith, nat_tests, others_of c s os)
 
 module _ (h : History) (os : List Order) (st : OrdersStand h os) (answered : Outcome) where
+  module _ (e : Event) where
+    -- no more is taken off than is there
+    enough : (id : ℕ) (x : Option Order) → lookup order_key id os ≡ x → off_order id e ≤ shares_of x → Enough (off_order id e) x
+    enough id None is l = omega arith
+    enough id (Some o) is l = let fits = found-each order_key NarrowOrder id os o st.narrow is in (fits.least, l)
+
+    -- what is left of what was found
+    left_now : (id : ℕ) (x : Option Order) → lookup order_key id os ≡ x → is_add id e ≡ false → off_order id e ≤ shares_of x
+        → order_by id (said e answered ∷ h) ≡ left_after (λ s. is_clear s e) (off_order id e) x
+    left_now id x is none l =
+        let same = sym (st.each id) ∙ is in
+        subst (λ y. Enough (off_order id e) y → order_by id (said e answered ∷ h) ≡ left_after (λ s. is_clear s e) (off_order id e) y) same
+        (left_later h (said e answered) id none) (enough id x is l)
+
+    unmoved : (id : ℕ) → Skips e id → ((s : ℕ) → is_clear s e ≡ false) → lookup order_key id os ≡ order_by id (said e answered ∷ h)
+    unmoved id skips stays =
+        let x = lookup order_key id os in
+        let none = skips.1 in
+        let l : off_order id e ≤ shares_of x = omega arith in
+        sym (left_now id x refl skips.0 l ∙ none_taken (λ s. is_clear s e) (off_order id e) x stays none (enough id x refl l))
+
+    -- a change of what is found under one ID
+    all-but : (i : ℕ) (x : Option Order) (now : List Order) → Changed order_key i x os now → ((s : ℕ) → is_clear s e ≡ false) → x ≡ order_by i (said e answered ∷ h)
+        → ((j : ℕ) → (i ≡ j → ⊥) → Skips e j) → (id : ℕ) → lookup order_key id now ≡ order_by id (said e answered ∷ h)
+    all-but i x now changed stays here skips = by-key order_key i os (λ j y. y ≡ order_by j (said e answered ∷ h)) x now changed here (λ j n. unmoved j (skips j n) stays)
+
   -- an order comes to rest
   pub add-stands : (o : Order) → NarrowOrder o → holds order_key o.id os ≡ false → OrdersStand (said (adds o) answered ∷ h) (placed order_key o os)
   add-stands o fits free =
-      let key = own_key o.id fits.id in
-      let not_held : holds order_key (order_key o) os ≡ false = rw key free in
-      let found : lookup order_key o.id (placed order_key o os) ≡ Some o = ap (λ k. lookup order_key k (placed order_key o os)) (sym key) ∙ lookup-inserted order_key o os not_held in
-      let same : eqb o.id o.id ≡ true = eq-eqb o.id o.id refl in
-      let rests : Resting (said (adds o) answered ∷ h) o.id o = record {
-        added = o;
-        last = rw same refl;
-        same_id = refl;
-        same_symbol = refl;
-        same_price = refl;
-        no_clear = rw same refl;
-        left = rw same (omega arith);
-      } in
+      let rests : order_by o.id (said (adds o) answered ∷ h) ≡ Some o = rw (eq-eqb o.id o.id refl) (untouched o fits.least) in
+      let changed = placing order_key o.id os st.rising o (own_key o.id fits.id) free in
       record {
-        rising = rising-placed order_key o os (absent-unheld order_key (order_key o) os not_held) st.rising;
+        rising = changed.rising;
         narrow = each_placed order_key NarrowOrder o os fits st.narrow;
         count = let c = st.count in let l = length-placed order_key o os in omega arith;
-        each = all-but h (said (adds o) answered) (λ s. refl) os (placed order_key o os) st.each o.id (rw found rests)
-            (λ j n. ((ne_eqb o.id j n, refl), lookup-placed-other order_key j o os (λ e. n (sym key ∙ e))));
+        each = all-but (adds o) o.id (Some o) (placed order_key o os) changed (λ s. refl) (sym rests) (λ j n. (ne_eqb o.id j n, refl));
         balance = λ s. let b = st.balance s in let p = sum-placed (shares_if s) order_key o os in omega arith;
       }
 
   module _ (i n : ℕ) (o : Order) (e : Event) (takes : Takes i n e) (found : lookup order_key i os ≡ Some o) (enough : n ≤ o.shares) where
     rests : Resting h i o
-    rests = subst (OrderStands h i) found (st.each i)
+    rests = rests-by h i o (sym (st.each i) ∙ found)
 
     its_key : order_key o ≡ i
     its_key = found-key order_key i os o found
@@ -155,20 +194,21 @@ module _ (h : History) (os : List Order) (st : OrdersStand h os) (answered : Out
     fits = found-each order_key NarrowOrder i os o st.narrow found
 
     its_shares : (s : ℕ) → off_symbol s e h ≡ cond (eqb o.symbol s) n 0
-    its_shares s = takes.off_its s h ∙ rw rests.last (rw rests.same_symbol refl)
+    its_shares s = takes.off_its s h ∙ rw rests.last (ap (λ p. cond (eqb p.symbol s) n 0) (sym rests.less))
 
     here : off_order i e ≡ n
     here = let off = takes.off i in rw (eq-eqb i i refl) at off
 
-    taken : (now : List Order) → Rising order_key now → Each NarrowOrder now → length now ≤ length os → OrderStands (said e answered ∷ h) i (lookup order_key i now)
-        → ((j : ℕ) → (i ≡ j → ⊥) → lookup order_key j now ≡ lookup order_key j os) → ((s : ℕ) → sum (shares_if s) now + cond (eqb o.symbol s) n 0 ≡ sum (shares_if s) os)
-        → OrdersStand (said e answered ∷ h) now
-    taken now rising narrow fewer stands there total = record {
-      rising = rising;
+    its_left : order_by i (said e answered ∷ h) ≡ left_if false n o
+    its_left = left_now e i (Some o) found (takes.adds_none i) (rw here enough) ∙ rw (here, takes.clears_none o.symbol) refl
+
+    taken : (x : Option Order) (now : List Order) → Changed order_key i x os now → x ≡ left_if false n o → Each NarrowOrder now → length now ≤ length os
+        → ((s : ℕ) → sum (shares_if s) now + cond (eqb o.symbol s) n 0 ≡ sum (shares_if s) os) → OrdersStand (said e answered ∷ h) now
+    taken x now changed is narrow fewer total = record {
+      rising = changed.rising;
       narrow = narrow;
       count = let c = st.count in omega arith;
-      each = all-but h (said e answered) takes.clears_none os now st.each i stands
-          (λ j apart. ((takes.adds_none j, takes.off j ∙ rw (ne_eqb i j apart) refl), there j apart));
+      each = all-but e i x now changed takes.clears_none (is ∙ sym its_left) (λ j apart. (takes.adds_none j, takes.off j ∙ rw (ne_eqb i j apart) refl));
       balance = λ s.
           let b = st.balance s in
           let br = takes.brings_none s in
@@ -179,55 +219,44 @@ module _ (h : History) (os : List Order) (st : OrdersStand h os) (answered : Out
     }
 
     -- shares are taken off an order, and some are left
-    pub lessened : OrdersStand (said e answered ∷ h) (replaced order_key (less_shares n o) os)
-    lessened =
+    pub lessened : (n ≡ o.shares → ⊥) → OrdersStand (said e answered ∷ h) (replaced order_key (less_shares n o) os)
+    lessened some =
         let less = less_shares n o in
         let f = fits in
-        let its = its_key in
-        let off = here in
-        let is_held : holds order_key (order_key less) os ≡ true = ap is_some found_by_key in
-        let now : lookup order_key i (replaced order_key less os) ≡ Some less = subst (λ k. lookup order_key k (replaced order_key less os) ≡ Some less) its (lookup-replaced order_key less os is_held) in
-        taken (replaced order_key less os)
-        (rising-replaced order_key less os st.rising)
-        (each-replaced order_key NarrowOrder less os (record { id = f.id; symbol = f.symbol; price = f.price; shares = let l = f.shares in omega arith }) st.narrow)
+        taken (Some less) (replaced order_key less os)
+        (exchanging order_key i os st.rising less its_key (ap is_some found))
+        (rw (ne_eqb n o.shares some) refl)
+        (each-replaced order_key NarrowOrder less os (record { id = f.id; symbol = f.symbol; price = f.price; shares = let l = f.shares in omega arith; least = omega arith }) st.narrow)
         (let l = length-replaced order_key less os in omega arith)
-        (rw now (moved h (said e answered) i (takes.adds_none i) o less refl refl refl (omega arith) (takes.clears_none o.symbol) rests))
-        (λ j apart. lookup-replaced-other order_key j less os (λ e. apart (sym its ∙ e)))
         (λ s. let t = sum-replaced (shares_if s) order_key less o os found_by_key in grind (arith, nat_tests))
 
     -- the last ones are
     pub emptied : n ≡ o.shares → OrdersStand (said e answered ∷ h) (without order_key o.id os)
     emptied all =
-        let its = rests.same_id in
-        let off = here in
+        let its = sym (own_key o.id fits.id) ∙ its_key in
         rw its
-        (taken (without order_key i os)
-        (rising-without order_key i os st.rising)
+        (taken None (without order_key i os)
+        (taking order_key i os st.rising)
+        (rw (eq-eqb n o.shares all) refl)
         (each-without order_key NarrowOrder i os st.narrow)
         (length-without order_key i os)
-        (rw (lookup-gone order_key i os st.rising) (gone h (said e answered) i (takes.adds_none i) o (λ t. omega arith) rests))
-        (λ j apart. lookup-without-other order_key j i os apart)
         (λ s. let t = sum-without (shares_if s) order_key i o os found in grind (arith, nat_tests)))
 
   -- the orders of a symbol are cleared
   module _ (c : ℕ) (reports : answered.shares ≡ sum (shares_if c) os) where
-    cleared : (id : ℕ) (x : Option Order) → lookup order_key id os ≡ x → OrderStands h id x
-        → OrderStands (said (clears c) answered ∷ h) id (lookup order_key id (others (is_of c) os))
-    cleared id None e l =
+    cleared : (id : ℕ) (x : Option Order) → lookup order_key id os ≡ x → lookup order_key id (others (is_of c) os) ≡ left_after (λ s. eqb c s) 0 x
+    cleared id None e =
         let absent = absent-unheld order_key id os (ap is_some e) in
-        let none : lookup order_key id (others (is_of c) os) ≡ None = lookup_absent order_key id (others (is_of c) os) (each-others (is_of c) (λ o. order_key o ≡ id → ⊥) os absent) in
-        rw none (still_none h (said (clears c) answered) id refl (last_add id h) (since_add id h) refl l)
-    cleared id (Some o) e r =
+        lookup_absent order_key id (others (is_of c) os) (each-others (is_of c) (λ o. order_key o ≡ id → ⊥) os absent)
+    cleared id (Some o) e =
         let key = found-key order_key id os o e in
         ⊎_elim
         (λ t.
         let swept = lookup-swept order_key (is_of c) o os st.rising (rw key e) t in
-        let none : lookup order_key id (others (is_of c) os) ≡ None = subst (λ k. lookup order_key k (others (is_of c) os) ≡ None) key swept in
-        let its = eq-eqb c o.symbol (sym (eqb-true o.symbol c t)) in
-        rw none (gone h (said (clears c) answered) id refl o (λ n. cc) r))
+        rw (eq-eqb c o.symbol (sym (eqb-true o.symbol c t))) (subst (λ k. lookup order_key k (others (is_of c) os) ≡ None) key swept))
         (λ t.
-        let other = ne_eqb c o.symbol (λ s. eqb-false o.symbol c t (sym s)) in
-        rw (lookup-others order_key (is_of c) id o os t e) (moved h (said (clears c) answered) id refl o o refl refl refl (omega arith) other r))
+        let fits = found-each order_key NarrowOrder id os o st.narrow e in
+        lookup-others order_key (is_of c) id o os t e ∙ rw (ne_eqb c o.symbol (λ s. eqb-false o.symbol c t (sym s))) (sym (untouched o fits.least)))
         (cases_Bool (is_of c o))
 
     pub clear-stands : OrdersStand (said (clears c) answered ∷ h) (others (is_of c) os)
@@ -235,7 +264,7 @@ module _ (h : History) (os : List Order) (st : OrdersStand h os) (answered : Out
       rising = rising-others (is_of c) order_key os st.rising;
       narrow = each-others (is_of c) NarrowOrder os st.narrow;
       count = let k = st.count in let l = length-others (is_of c) os in omega arith;
-      each = λ id. cleared id (lookup order_key id os) refl (st.each id);
+      each = λ id. cleared id (lookup order_key id os) refl ∙ sym (left_now (clears c) id (lookup order_key id os) refl refl (omega arith));
       balance = λ s.
           let b = st.balance s in
           let o = others_of c s os in
@@ -248,7 +277,7 @@ module _ (h : History) (os : List Order) (st : OrdersStand h os) (answered : Out
     rising = st.rising;
     narrow = st.narrow;
     count = let c = st.count in omega arith;
-    each = λ id. unmoved h (said e answered) id (spares.skips id).0 (spares.skips id).1 spares.clears_none (lookup order_key id os) (st.each id);
+    each = λ id. unmoved e id (spares.skips id) spares.clears_none;
     balance = λ s.
         let b = st.balance s in
         let br = spares.brings_none s in

@@ -1,262 +1,237 @@
 -- What each accepted message leaves of the symbols' rows.
-use Rattle.std.proofs.Common.{◌≡◌, ℕ, ◌+◌, ◌-◌, ◌*◌, ◌/◌, ◌%◌, ◌^◌, ◌<◌, ◌≤◌, true, false, not, ◌&&◌, List, length, is_some, Some, None, Option, refl, sym, ap, ◌∙◌, subst, ⊎_elim, arith}
+use Rattle.std.proofs.Common.{◌≡◌, ℕ, ◌+◌, ◌-◌, ◌*◌, ◌/◌, ◌%◌, ◌^◌, ◌<◌, ◌≤◌, true, false, cond, eqb, not, ◌&&◌, ◌||◌, List, [], ◌∷◌, length, is_some, Some, None, Option, refl, sym, ap, ◌∙◌, subst, ⊎_elim, inl, inr, ◌⊎◌, arith}
 use Rattle.std.proofs.Math.Nat.{mul-le-mul, mul-le-mul_left}
+use Rattle.std.proofs.Math.Bool.{or-true}
 use Rattle.std.proofs.lemmas.Bool.{cases_eq, cases_Bool, ne_eqb, eq-eqb}
 use Rattle.std.proofs.lemmas.Bool.Decides.{nat_tests}
+use Rattle.records.specs.declared.order.Order.{Order}
 use Rattle.records.specs.declared.execution.Execution.{Execution}
 use Rattle.records.specs.declared.symbol_row.SymbolRow.{SymbolRow}
-use Rattle.records.specs.Keys.{execution_key, symbol_key, row_worth}
+use Rattle.records.specs.Keys.{execution_key, symbol_key}
 use Rattle.store.specs.Lists.{Each, Rising, lookup, holds, placed, replaced}
 use Rattle.store.specs.Models.{Model, inserted}
 use Rattle.store.proofs.Each.{each-so}
-use Rattle.store.proofs.Inserting.{absent-unheld}
-use Rattle.store.proofs.Keyed.{lookup_absent}
-use Rattle.store.proofs.Lookups.{lookup-inserted, lookup-placed-other, lookup-replaced, lookup-replaced-other}
-use Rattle.store.proofs.Placed.{each_placed, rising-placed, length-placed}
-use Rattle.store.proofs.Ruling.{found-key, found-each, each-replaced, rising-replaced}
+use Rattle.store.proofs.Placed.{each_placed, length-placed}
+use Rattle.store.proofs.Ruling.{found-each, each-replaced}
 use Rattle.book.specs.Books.{sum}
 use Rattle.day_rules.specs.Days.{greatest_limit}
-use Rattle.day_rules.specs.Rows.{execution_worth, with_execution, without_execution, new_row, row_or_new}
+use Rattle.day_rules.specs.Events.{Event, clears, adds, executes, cancels, trades, breaks}
+use Rattle.day_rules.specs.Rows.{row_of, execution_worth, with_execution, without_execution, new_row, row_or_new}
 use Rattle.day_rules.specs.Rules.{is_full, row_put, row_taken, marked}
-use Rattle.day_rules.proofs.Standing.{NarrowFill, unless_marked, if_of, in_row, Says, RowsStand, own_key}
-use Rattle.day_rules.proofs.Sums.{sum-most, sum-placed, sum-replaced}
+use Rattle.day_rules.specs.Words.{History, or_added, last_add, needs_row, row_needed}
+use Rattle.day_rules.proofs.Changed.{Changed, placing, exchanging, by-key}
+use Rattle.day_rules.proofs.Standing.{NarrowFill, unless_marked, if_of, stored, row_stored, RowsStand, own_key}
+use Rattle.day_rules.proofs.Sums.{each-all, sum-least, sum-most, sum-placed, sum-replaced}
 
--- A column of the rows: what a row says, and what an execution counts in it.
-record Column (says : SymbolRow → ℕ) (w : Execution → ℕ) : Type 0 where
-  -- no execution counts more
-  most : ℕ
-  bound : (e : Execution) → NarrowFill e → w e ≤ most
-  -- below the greatest sum of a day, no sum stops
-  more : (e : Execution) (r : SymbolRow) → says r + w e ≤ most * greatest_limit → says (with_execution e r) ≡ says r + w e
-  less : (e : Execution) (r : SymbolRow) → says r ≤ most * greatest_limit → says (without_execution e r) ≡ says r - w e
-  new : (s : ℕ) → says (new_row s) ≡ 0
+-- What executions come to.
+
+-- equal sums are one row
+pub same-row : (s v v2 w w2 : ℕ) → v ≡ v2 → w ≡ w2 → row_of s v w ≡ row_of s v2 w2
+same-row s v v2 w w2 p q = λ i. row_of s (p i) (q i)
 
 -- a number is its two parts
-parted : (n : ℕ) → n / 10 ^ 16 * 10 ^ 16 + n % 10 ^ 16 ≡ n
+pub parted : (n : ℕ) → n / 10 ^ 16 * 10 ^ 16 + n % 10 ^ 16 ≡ n
 parted n = omega arith
 
-volumes : Column (λ r. r.volume) (λ e. e.shares)
-volumes = record {
-  most = 999999;
-  bound = λ e n. n.shares;
-  more = λ e r l. omega arith;
-  less = λ e r l. refl;
-  new = λ s. refl;
-}
+-- the most that one execution counts
+pub shares-most : (e : Execution) → NarrowFill e → e.shares ≤ 999999
+shares-most e n = n.shares
 
-values : Column row_worth execution_worth
-values = record {
-  most = 999999 * 9999999999;
-  bound = λ e n. mul-le-mul n.shares n.price;
-  more = λ e r l. parted _ ∙ (omega arith);
-  less = λ e r l. parted _ ∙ (omega arith);
-  new = λ s. refl;
-}
+pub worth-most : (e : Execution) → NarrowFill e → execution_worth e ≤ 999999 * 9999999999
+worth-most e n = mul-le-mul n.shares n.price
 
--- A row put in.
-module _ (m : Model SymbolRow) (rising : Rising symbol_key m.rows) (narrow : Each (λ r. r.symbol < 2 ^ 64) m.rows) where
-  -- what is found then
-  record Put (r : SymbolRow) (now : List SymbolRow) : Type 0 where
-    rises : Rising symbol_key now
-    narrows : Each (λ q. q.symbol < 2 ^ 64) now
-    found : lookup symbol_key r.symbol now ≡ Some r
-    rest : (j : ℕ) → (r.symbol ≡ j → ⊥) → lookup symbol_key j now ≡ lookup symbol_key j m.rows
-
-  module _ (r : SymbolRow) (fits : r.symbol < 2 ^ 64) where
-    placing : holds symbol_key (symbol_key r) m.rows ≡ false → Put r (placed symbol_key r m.rows)
-    placing free =
-        let key = own_key r.symbol fits in
-        record {
-          rises = rising-placed symbol_key r m.rows (absent-unheld symbol_key (symbol_key r) m.rows free) rising;
-          narrows = each_placed symbol_key (λ q. q.symbol < 2 ^ 64) r m.rows fits narrow;
-          found = subst (λ k. lookup symbol_key k (placed symbol_key r m.rows) ≡ Some r) key (lookup-inserted symbol_key r m.rows free);
-          rest = λ j n. lookup-placed-other symbol_key j r m.rows (λ e. n (sym key ∙ e));
-        }
-
-    replaces : holds symbol_key (symbol_key r) m.rows ≡ true → Put r (replaced symbol_key r m.rows)
-    replaces is_held =
-        let key = own_key r.symbol fits in
-        record {
-          rises = rising-replaced symbol_key r m.rows rising;
-          narrows = each-replaced symbol_key (λ q. q.symbol < 2 ^ 64) r m.rows fits narrow;
-          found = subst (λ k. lookup symbol_key k (replaced symbol_key r m.rows) ≡ Some r) key (lookup-replaced symbol_key r m.rows is_held);
-          rest = λ j n. lookup-replaced-other symbol_key j r m.rows (λ e. n (sym key ∙ e));
-        }
-
-    -- over the row that there is, or where there is room for one
-    put : (x : Option SymbolRow) → lookup symbol_key r.symbol m.rows ≡ x → (not (holds symbol_key r.symbol m.rows) && is_full m) ≡ false → Put r (row_put x r m).rows
-    put (Some old) is room =
-        let key = own_key r.symbol fits in
-        let found : lookup symbol_key (symbol_key r) m.rows ≡ Some old = rw key is in
-        replaces (ap is_some found)
-    put None is room =
-        let key = own_key r.symbol fits in
-        let free : holds symbol_key r.symbol m.rows ≡ false = ap is_some is in
-        let free_by_key : holds symbol_key (symbol_key r) m.rows ≡ false = rw key free in
-        let full : is_full m ≡ false = rw free at room in
-        rw free_by_key (rw full (placing free_by_key))
-
--- The row that an execution changes.
-its_symbol : (k : ℕ) (rs : List SymbolRow) (x : Option SymbolRow) → k < 2 ^ 64 → Each (λ r. r.symbol < 2 ^ 64) rs → lookup symbol_key k rs ≡ x → (row_or_new k x).symbol ≡ k
-its_symbol k rs None l n e = refl
-its_symbol k rs (Some r) l n e =
-    let small = found-each symbol_key (λ q. q.symbol < 2 ^ 64) k rs r n e in
-    let key = found-key symbol_key k rs r e in
-    omega arith
-
-module _ (says : SymbolRow → ℕ) (w : Execution → ℕ) (c : Column says w) where
-  -- what a day's executions count is small
-  counts_small : (s : ℕ) (es : List Execution) → Each NarrowFill es → length es ≤ greatest_limit → sum (unless_marked (if_of w s)) es ≤ c.most * greatest_limit
-  counts_small s es narrow few =
-      let each = each-so NarrowFill (λ e. unless_marked (if_of w s) e ≤ c.most) (λ e n. let b = c.bound e n in grind (arith, nat_tests)) es narrow in
-      let all = sum-most (unless_marked (if_of w s)) c.most es each in
-      let room = mul-le-mul_left c.most few in
+-- what is counted of the executions of a day is small
+module _ (w : Execution → ℕ) (most : ℕ) (bound : (e : Execution) → NarrowFill e → w e ≤ most) (es : List Execution) (narrow : Each NarrowFill es) (few : length es ≤ greatest_limit) where
+  pub all-few : sum (unless_marked w) es ≤ most * greatest_limit
+  all-few =
+      let each = each-so NarrowFill (λ e. unless_marked w e ≤ most) (λ e n. let b = bound e n in grind (arith, nat_tests)) es narrow in
+      let all = sum-most (unless_marked w) most es each in
+      let room = mul-le-mul_left most few in
       omega arith
 
+  stored_few : (s : ℕ) → stored w s es ≤ most * greatest_limit
+  stored_few s =
+      let all = all-few in
+      let part = sum-least (unless_marked (if_of w s)) (unless_marked w) es (each-all _ (λ e. grind (arith, nat_tests)) es) in
+      omega arith
+
+-- of a symbol that needs no row, nothing
+none_stored : (w : Execution → ℕ) (s : ℕ) (h : History) (es : List Execution) → Each (λ e. row_needed e.symbol h ≡ true) es → row_needed s h ≡ false → stored w s es ≡ 0
+none_stored w s h [] n f = refl
+none_stored w s h (e ∷ es) n f =
+    let rest = none_stored w s h es n.1 f in
+    let other : eqb e.symbol s ≡ false = ne_eqb e.symbol s (λ t. let own = n.0 in let same = ap (λ k. row_needed k h) t in cc) in
+    grind (arith, nat_tests)
+
+module _ (h : History) (es : List Execution) (rs : List SymbolRow) (st : RowsStand h es rs) where
   -- a missing row says as much as a new one
-  says_new : (k : ℕ) (x : Option SymbolRow) → says (row_or_new k x) ≡ in_row says x
-  says_new k None = c.new k
-  says_new k (Some r) = refl
-
-  module _ (e : Execution) (unbroken : e.broken ≡ false) (fits : NarrowFill e) (es : List Execution) (narrow : Each NarrowFill es) (few : length es < greatest_limit)
-      (rs : List SymbolRow) (was : Says says w es rs) where
-    old : SymbolRow
-    old = row_or_new e.symbol (lookup symbol_key e.symbol rs)
-
-    counted : unless_marked (if_of w e.symbol) e ≡ w e
-    counted = rw (unbroken, eq-eqb e.symbol e.symbol refl) refl
-
-    one_more : says (with_execution e (row_or_new e.symbol (lookup symbol_key e.symbol rs))) ≡ sum (unless_marked (if_of w e.symbol)) (placed execution_key e es)
-    one_more =
-        let new_sum = sum-placed (unless_marked (if_of w e.symbol)) execution_key e es in
-        let length_now = length-placed execution_key e es in
-        let small = counts_small e.symbol (placed execution_key e es) (each_placed execution_key NarrowFill e es fits narrow) (omega arith) in
-        let before = says_new e.symbol (lookup symbol_key e.symbol rs) ∙ was e.symbol in
-        let its = counted in
-        c.more e (row_or_new e.symbol (lookup symbol_key e.symbol rs)) (omega arith) ∙ (omega arith)
-
-    filled_says : (now : List SymbolRow)
-        → lookup symbol_key e.symbol now ≡ Some (with_execution e (row_or_new e.symbol (lookup symbol_key e.symbol rs))) → ((j : ℕ) → (e.symbol ≡ j → ⊥) → lookup symbol_key j now ≡ lookup symbol_key j rs)
-        → Says says w (placed execution_key e es) now
-    filled_says now here there s =
-        ⊎_elim
-        (λ m. subst (λ k. in_row says (lookup symbol_key k now) ≡ sum (unless_marked (if_of w k)) (placed execution_key e es)) m (rw here one_more))
-        (λ m.
-        let new_sum = sum-placed (unless_marked (if_of w s)) execution_key e es in
-        let before = was s in
-        let none : unless_marked (if_of w s) e ≡ 0 = rw (unbroken, ne_eqb e.symbol s m) refl in
-        rw (there s m) (omega arith))
-        (cases_eq e.symbol s)
-
--- An execution or a trade.
-pub fill_rows : (e : Execution) → e.broken ≡ false → NarrowFill e → (es : List Execution) → Each NarrowFill es → length es < greatest_limit → (m : Model SymbolRow) → RowsStand es m.rows
-    → (not (holds symbol_key e.symbol m.rows) && is_full m) ≡ false
-    → RowsStand (placed execution_key e es) (row_put (lookup symbol_key e.symbol m.rows) (with_execution e (row_or_new e.symbol (lookup symbol_key e.symbol m.rows))) m).rows
-fill_rows e unbroken fits es narrow few m st room =
-    let found = lookup symbol_key e.symbol m.rows in
-    let r = with_execution e (row_or_new e.symbol found) in
-    let same : r.symbol ≡ e.symbol = its_symbol e.symbol m.rows found fits.symbol st.narrow refl in
-    let now = (row_put found r m).rows in
-    let p : Put m st.rising st.narrow r now = put m st.rising st.narrow r (rw same fits.symbol) found (rw same refl) (rw same room) in
-    let here : lookup symbol_key e.symbol now ≡ Some r = subst (λ k. lookup symbol_key k now ≡ Some r) same p.found in
-    let there : (j : ℕ) → (e.symbol ≡ j → ⊥) → lookup symbol_key j now ≡ lookup symbol_key j m.rows = λ j n. p.rest j (λ t. n (sym same ∙ t)) in
-    record {
-      rising = p.rises;
-      narrow = p.narrows;
-      volume = filled_says _ _ volumes e unbroken fits es narrow few m.rows st.volume now here there;
-      value = filled_says _ _ values e unbroken fits es narrow few m.rows st.value now here there;
-    }
-
--- An add: a row stands for its symbol.
-module _ (says : SymbolRow → ℕ) (w : Execution → ℕ) (c : Column says w) where
-  joined_says : (es : List Execution) (rs now : List SymbolRow) (s : ℕ) → Says says w es rs → lookup symbol_key s rs ≡ None → lookup symbol_key s now ≡ Some (new_row s)
-      → ((j : ℕ) → (s ≡ j → ⊥) → lookup symbol_key j now ≡ lookup symbol_key j rs) → Says says w es now
-  joined_says es rs now s was none here there j =
+  pub row-now : (s : ℕ) (x : Option SymbolRow) → lookup symbol_key s rs ≡ x → row_or_new s x ≡ row_stored s es
+  row-now s x is =
+      let stands = sym is ∙ st.each s in
       ⊎_elim
-      (λ m. subst (λ k. in_row says (lookup symbol_key k now) ≡ sum (unless_marked (if_of w k)) es) m (rw here (c.new s ∙ sym (ap (in_row says) none) ∙ was s)))
-      (λ m. rw (there j m) (was j))
-      (cases_eq s j)
+      (λ t. ap (row_or_new s) (rw t at stands))
+      (λ t. ap (row_or_new s) (rw t at stands) ∙ same-row s _ _ _ _ (sym (none_stored (λ e. e.shares) s h es st.needed t)) (sym (none_stored execution_worth s h es st.needed t)))
+      (cases_Bool (row_needed s h))
 
-pub add_rows : (s : ℕ) → s < 2 ^ 64 → (es : List Execution) (m : Model SymbolRow) → RowsStand es m.rows → (not (holds symbol_key s m.rows) && is_full m) ≡ false
-    → RowsStand es (inserted symbol_key (new_row s) m).rows
-add_rows s small es m st room =
-    let key = own_key s small in
-    ⊎_elim
-    (λ t. let q : holds symbol_key (symbol_key (new_row s)) m.rows ≡ true = rw key t in rw q st)
-    (λ t.
-    let none = lookup_absent symbol_key s m.rows (absent-unheld symbol_key s m.rows t) in
-    let q : holds symbol_key (symbol_key (new_row s)) m.rows ≡ false = rw key t in
-    let full : is_full m ≡ false = rw t at room in
-    let p : Put m st.rising st.narrow (new_row s) (placed symbol_key (new_row s) m.rows) = placing m st.rising st.narrow (new_row s) small q in
-    rw q (rw full (record {
-      rising = p.rises;
-      narrow = p.narrows;
-      volume = joined_says _ _ volumes es m.rows _ s st.volume none p.found p.rest;
-      value = joined_says _ _ values es m.rows _ s st.value none p.found p.rest;
-    })))
-    (cases_Bool (holds symbol_key s m.rows))
+  pub row-held : (s : ℕ) → row_needed s h ≡ true → lookup symbol_key s rs ≡ Some (row_stored s es)
+  row-held s t = st.each s ∙ rw t refl
 
--- A break.
-module _ (e : Execution) (unbroken : e.broken ≡ false) (es : List Execution) (found : lookup execution_key (execution_key e) es ≡ Some e) where
+-- An execution more, or one broken.
+module _ (e : Execution) (unbroken : e.broken ≡ false) (es : List Execution) where
+  its_own : (w : Execution → ℕ) → unless_marked (if_of w e.symbol) e ≡ w e
+  its_own w = rw (unbroken, eq-eqb e.symbol e.symbol refl) refl
+
+  foreign : (w : Execution → ℕ) (s : ℕ) → (e.symbol ≡ s → ⊥) → unless_marked (if_of w s) e ≡ 0
+  foreign w s n = rw (unbroken, ne_eqb e.symbol s n) refl
+
   module _ (w : Execution → ℕ) where
-    one_less : (s : ℕ) → sum (unless_marked (if_of w s)) (replaced execution_key (marked e) es) + if_of w s e ≡ sum (unless_marked (if_of w s)) es
-    one_less s =
-        let r = sum-replaced (unless_marked (if_of w s)) execution_key (marked e) e es found in
-        let its : unless_marked (if_of w s) e ≡ if_of w s e = rw unbroken refl in
-        omega arith
+    more_own : stored w e.symbol (placed execution_key e es) ≡ stored w e.symbol es + w e
+    more_own = let all = sum-placed (unless_marked (if_of w e.symbol)) execution_key e es in let its = its_own w in omega arith
 
-  module _ (says : SymbolRow → ℕ) (w : Execution → ℕ) (c : Column says w) (narrow : Each NarrowFill es) (few : length es ≤ greatest_limit) (rs : List SymbolRow) (was : Says says w es rs) where
-    -- another symbol's row says what it said
-    other_says : (s : ℕ) → (e.symbol ≡ s → ⊥) → in_row says (lookup symbol_key s rs) ≡ sum (unless_marked (if_of w s)) (replaced execution_key (marked e) es)
-    other_says s n = let before = was s in let less = one_less w s in let none : if_of w s e ≡ 0 = rw (ne_eqb e.symbol s n) refl in omega arith
+    more_other : (s : ℕ) → (e.symbol ≡ s → ⊥) → stored w s (placed execution_key e es) ≡ stored w s es
+    more_other s n = let all = sum-placed (unless_marked (if_of w s)) execution_key e es in let its = foreign w s n in omega arith
 
-    absent_says : lookup symbol_key e.symbol rs ≡ None → Says says w (replaced execution_key (marked e) es) rs
-    absent_says none s =
-        ⊎_elim
-        (λ m.
-        let nothing : in_row says (lookup symbol_key s rs) ≡ 0 = ap (in_row says) (ap (λ k. lookup symbol_key k rs) (sym m) ∙ none) in
-        let before = was s in
-        let less = one_less w s in
-        omega arith)
-        (λ m. other_says s m)
-        (cases_eq e.symbol s)
+  rows_more : (s : ℕ) → (e.symbol ≡ s → ⊥) → row_stored s (placed execution_key e es) ≡ row_stored s es
+  rows_more s n = same-row s _ _ _ _ (more_other (λ f. f.shares) s n) (more_other execution_worth s n)
 
-    taken_says : (r : SymbolRow) (now : List SymbolRow) → lookup symbol_key e.symbol rs ≡ Some r → lookup symbol_key e.symbol now ≡ Some (without_execution e r)
-        → ((j : ℕ) → (e.symbol ≡ j → ⊥) → lookup symbol_key j now ≡ lookup symbol_key j rs) → Says says w (replaced execution_key (marked e) es) now
-    taken_says r now its here there s =
-        ⊎_elim
-        (λ m.
-        let before : says r ≡ sum (unless_marked (if_of w e.symbol)) es = sym (ap (in_row says) its) ∙ was e.symbol in
-        let small = counts_small says w c e.symbol es narrow few in
-        let less = one_less w e.symbol in
-        let one : if_of w e.symbol e ≡ w e = rw (eq-eqb e.symbol e.symbol refl) refl in
-        let left = c.less e r (omega arith) in
-        subst (λ k. in_row says (lookup symbol_key k now) ≡ sum (unless_marked (if_of w k)) (replaced execution_key (marked e) es)) m (rw here (omega arith)))
-        (λ m. rw (there s m) (other_says s m))
-        (cases_eq e.symbol s)
+  one_more : Each NarrowFill (placed execution_key e es) → length (placed execution_key e es) ≤ greatest_limit → with_execution e (row_stored e.symbol es) ≡ row_stored e.symbol (placed execution_key e es)
+  one_more narrow few =
+      let whole = parted (stored execution_worth e.symbol es) in
+      same-row e.symbol _ _ _ _
+      (let now = more_own (λ f. f.shares) in let small = stored_few (λ f. f.shares) 999999 shares-most (placed execution_key e es) narrow few e.symbol in omega arith)
+      (let now = more_own execution_worth in let small = stored_few execution_worth (999999 * 9999999999) worth-most (placed execution_key e es) narrow few e.symbol in omega arith)
 
-  module _ (narrow : Each NarrowFill es) (few : length es ≤ greatest_limit) (m : Model SymbolRow) (st : RowsStand es m.rows) (small : e.symbol < 2 ^ 64) where
-    taken_rows : (x : Option SymbolRow) → lookup symbol_key e.symbol m.rows ≡ x → RowsStand (replaced execution_key (marked e) es) (row_taken e x m).rows
-    taken_rows None is = record {
-      rising = st.rising;
-      narrow = st.narrow;
-      volume = absent_says _ _ volumes narrow few m.rows st.volume is;
-      value = absent_says _ _ values narrow few m.rows st.value is;
+  module _ (found : lookup execution_key (execution_key e) es ≡ Some e) where
+    module _ (w : Execution → ℕ) where
+      less_own : stored w e.symbol (replaced execution_key (marked e) es) ≡ stored w e.symbol es - w e
+      less_own = let all = sum-replaced (unless_marked (if_of w e.symbol)) execution_key (marked e) e es found in let its = its_own w in omega arith
+
+      less_other : (s : ℕ) → (e.symbol ≡ s → ⊥) → stored w s (replaced execution_key (marked e) es) ≡ stored w s es
+      less_other s n = let all = sum-replaced (unless_marked (if_of w s)) execution_key (marked e) e es found in let its = foreign w s n in omega arith
+
+    rows_less : (s : ℕ) → (e.symbol ≡ s → ⊥) → row_stored s (replaced execution_key (marked e) es) ≡ row_stored s es
+    rows_less s n = same-row s _ _ _ _ (less_other (λ f. f.shares) s n) (less_other execution_worth s n)
+
+    one_less : Each NarrowFill es → length es ≤ greatest_limit → without_execution e (row_stored e.symbol es) ≡ row_stored e.symbol (replaced execution_key (marked e) es)
+    one_less narrow few =
+        let whole = parted (stored execution_worth e.symbol es) in
+        let small = stored_few execution_worth (999999 * 9999999999) worth-most es narrow few e.symbol in
+        same-row e.symbol _ _ _ _ (sym (less_own (λ f. f.shares))) (let now = less_own execution_worth in omega arith)
+
+-- A row put in.
+module _ (m : Model SymbolRow) (rising : Rising symbol_key m.rows) (r : SymbolRow) (fits : r.symbol < 2 ^ 64) where
+  joining : holds symbol_key r.symbol m.rows ≡ false → is_full m ≡ false → Changed symbol_key r.symbol (Some r) m.rows (inserted symbol_key r m).rows
+  joining free room =
+      let key = own_key r.symbol fits in
+      let free_by_key : holds symbol_key (symbol_key r) m.rows ≡ false = rw key free in
+      rw free_by_key (rw room (placing symbol_key r.symbol m.rows rising r key free))
+
+  -- over the row that there is, or where there is room for one
+  put : (x : Option SymbolRow) → lookup symbol_key r.symbol m.rows ≡ x → (not (is_some x) && is_full m) ≡ false → Changed symbol_key r.symbol (Some r) m.rows (row_put x r m).rows
+  put (Some old) is room = exchanging symbol_key r.symbol m.rows rising r (own_key r.symbol fits) (ap is_some is)
+  put None is room = joining (ap is_some is) room
+
+-- A message that needs no row but the symbol's.
+module _ (h now_h : History) (s : ℕ) (small : s < 2 ^ 64) (needs : (j : ℕ) → row_needed j now_h ≡ (eqb s j || row_needed j h)) where
+  needed_own : row_needed s now_h ≡ true
+  needed_own = needs s ∙ rw (eq-eqb s s refl) refl
+
+  needed_still : (j : ℕ) → row_needed j h ≡ true → row_needed j now_h ≡ true
+  needed_still j t = needs j ∙ rw t (or-true (eqb s j))
+
+  module _ (es : List Execution) (m : Model SymbolRow) (st : RowsStand h es m.rows) where
+    changed : (now_es : List Execution) → Each (λ e. row_needed e.symbol now_h ≡ true) now_es → ((j : ℕ) → (s ≡ j → ⊥) → row_stored j now_es ≡ row_stored j es)
+        → (now : List SymbolRow) → Changed symbol_key s (Some (row_stored s now_es)) m.rows now → RowsStand now_h now_es now
+    changed now_es needed same now c = record {
+      rising = c.rising;
+      needed = needed;
+      each = by-key symbol_key s m.rows (λ j x. x ≡ cond (row_needed j now_h) (Some (row_stored j now_es)) None) (Some (row_stored s now_es)) now c
+          (rw needed_own refl)
+          (λ j n. st.each j ∙ rw (needs j, ne_eqb s j n, same j n) refl);
     }
-    taken_rows (Some r) is =
-        let same = its_symbol e.symbol m.rows (Some r) small st.narrow is in
-        let less = without_execution e r in
-        let found_by_key : lookup symbol_key (symbol_key less) m.rows ≡ Some r = rw (found-key symbol_key e.symbol m.rows r is) is in
-        let now = replaced symbol_key less m.rows in
-        let p : Put m st.rising st.narrow less now = replaces m st.rising st.narrow less (rw same small) (ap is_some found_by_key) in
-        let here : lookup symbol_key e.symbol now ≡ Some less = subst (λ k. lookup symbol_key k now ≡ Some less) same p.found in
-        let there : (j : ℕ) → (e.symbol ≡ j → ⊥) → lookup symbol_key j now ≡ lookup symbol_key j m.rows = λ j n. p.rest j (λ t. n (sym same ∙ t)) in
-        record {
-          rising = p.rises;
-          narrow = p.narrows;
-          volume = taken_says _ _ volumes narrow few m.rows st.volume r now is here there;
-          value = taken_says _ _ values narrow few m.rows st.value r now is here there;
-        }
 
-    pub break_rows : RowsStand (replaced execution_key (marked e) es) (row_taken e (lookup symbol_key e.symbol m.rows) m).rows
-    break_rows = taken_rows (lookup symbol_key e.symbol m.rows) refl
+    all_needed : Each (λ e. row_needed e.symbol now_h ≡ true) es
+    all_needed = each-so (λ e. row_needed e.symbol h ≡ true) (λ e. row_needed e.symbol now_h ≡ true) (λ e. needed_still e.symbol) es st.needed
+
+    -- an add: a row stands for its symbol
+    module _ (room : (not (holds symbol_key s m.rows) && is_full m) ≡ false) where
+      standing : (x : Option SymbolRow) → lookup symbol_key s m.rows ≡ x → (not (is_some x) && is_full m) ≡ false → Changed symbol_key s (Some (row_stored s es)) m.rows (inserted symbol_key (new_row s) m).rows
+      standing (Some r) is left =
+          let is_held : holds symbol_key (symbol_key (new_row s)) m.rows ≡ true = rw (own_key s small) (ap is_some is) in
+          rw is_held (record { rising = st.rising; found = is ∙ ap Some (row-now h es m.rows st s (Some r) is); rest = λ j n. refl })
+      standing None is left =
+          subst (λ q. Changed symbol_key s (Some q) m.rows (inserted symbol_key (new_row s) m).rows) (row-now h es m.rows st s None is) (joining m st.rising (new_row s) small (ap is_some is) left)
+
+      pub add-rows : RowsStand now_h es (inserted symbol_key (new_row s) m).rows
+      add-rows = changed es all_needed (λ j n. refl) _ (standing (lookup symbol_key s m.rows) refl room)
+
+module _ (h now_h : History) (e : Execution) (unbroken : e.broken ≡ false) (fits : NarrowFill e) (needs : (j : ℕ) → row_needed j now_h ≡ (eqb e.symbol j || row_needed j h))
+    (es : List Execution) (narrow : Each NarrowFill es) (m : Model SymbolRow) (st : RowsStand h es m.rows) where
+  -- an execution or a trade
+  pub fill-rows : length es < greatest_limit → (not (holds symbol_key e.symbol m.rows) && is_full m) ≡ false
+      → RowsStand now_h (placed execution_key e es) (row_put (lookup symbol_key e.symbol m.rows) (with_execution e (row_or_new e.symbol (lookup symbol_key e.symbol m.rows))) m).rows
+  fill-rows few room =
+      let found = lookup symbol_key e.symbol m.rows in
+      let more = placed execution_key e es in
+      let count : length more ≤ greatest_limit = (let l = length-placed execution_key e es in omega arith) in
+      let r : with_execution e (row_or_new e.symbol found) ≡ row_stored e.symbol more =
+      ap (with_execution e) (row-now h es m.rows st e.symbol found refl) ∙ one_more e unbroken es (each_placed execution_key NarrowFill e es fits narrow) count in
+      subst (λ q. RowsStand now_h more (row_put found q m).rows) (sym r)
+      (changed h now_h e.symbol fits.symbol needs es m st more
+      (each_placed execution_key (λ f. row_needed f.symbol now_h ≡ true) e es (needed_own h now_h e.symbol fits.symbol needs) (all_needed h now_h e.symbol fits.symbol needs es m st))
+      (rows_more e unbroken es)
+      _
+      (put m st.rising (row_stored e.symbol more) fits.symbol found refl room))
+
+  -- a break
+  pub break-rows : length es ≤ greatest_limit → lookup execution_key (execution_key e) es ≡ Some e → RowsStand now_h (replaced execution_key (marked e) es) (row_taken e (lookup symbol_key e.symbol m.rows) m).rows
+  break-rows few found =
+      let now_es = replaced execution_key (marked e) es in
+      let its_row = row-held h es m.rows st e.symbol (found-each execution_key (λ f. row_needed f.symbol h ≡ true) (execution_key e) es e st.needed found) in
+      let r = one_less e unbroken es found narrow few in
+      rw its_row
+      (subst (λ q. RowsStand now_h now_es (replaced symbol_key q m.rows)) (sym r)
+      (changed h now_h e.symbol fits.symbol needs es m st now_es
+      (each-replaced execution_key (λ f. row_needed f.symbol now_h ≡ true) (marked e) es (needed_own h now_h e.symbol fits.symbol needs) (all_needed h now_h e.symbol fits.symbol needs es m st))
+      (rows_less e unbroken es found)
+      _
+      (exchanging symbol_key e.symbol m.rows st.rising (row_stored e.symbol now_es) (own_key e.symbol fits.symbol) (ap is_some its_row))))
+
+-- Which rows a message needs.
+
+-- an order's last add needed one for its symbol
+added-needs : (id : ℕ) (e : Event) (earlier : Option Order) (o : Order) → or_added id e earlier ≡ Some o → (earlier ≡ Some o) ⊎ (needs_row o.symbol e ≡ true)
+added-needs id (clears s) earlier o is = inl is
+added-needs id (adds p) earlier o is =
+    ⊎_elim
+    (λ t. let f = rw t at is in let same : p ≡ o = cc in inr (eq-eqb p.symbol o.symbol (ap (λ q. q.symbol) same)))
+    (λ t. let f = rw t at is in inl f)
+    (cases_Bool (eqb p.id id))
+added-needs id (executes i n x) earlier o is = inl is
+added-needs id (cancels i n) earlier o is = inl is
+added-needs id (trades e) earlier o is = inl is
+added-needs id (breaks x) earlier o is = inl is
+
+pub added-row : (h : History) (id : ℕ) (o : Order) → last_add id h ≡ Some o → row_needed o.symbol h ≡ true
+added-row [] id o is = cc
+added-row (a ∷ h) id o is =
+    ⊎_elim
+    (λ l. rw (added-row h id o l) (or-true (needs_row o.symbol a.event)))
+    (λ t. rw t refl)
+    (added-needs id a.event (last_add id h) o is)
+
+-- where one stands, none more is needed
+pub none-more : (h : History) (s : ℕ) → row_needed s h ≡ true → (j : ℕ) → row_needed j h ≡ (eqb s j || row_needed j h)
+none-more h s t j =
+    ⊎_elim
+    (λ e. rw (eq-eqb s j e) (ap (λ k. row_needed k h) (sym e) ∙ t))
+    (λ n. rw (ne_eqb s j n) refl)
+    (cases_eq s j)
+
+-- a message that needs none
+pub pass-rows : (h now_h : History) (es : List Execution) (rs : List SymbolRow) → ((j : ℕ) → row_needed j now_h ≡ row_needed j h) → RowsStand h es rs → RowsStand now_h es rs
+pass-rows h now_h es rs same st = record {
+  rising = st.rising;
+  needed = each-so (λ e. row_needed e.symbol h ≡ true) (λ e. row_needed e.symbol now_h ≡ true) (λ e t. same e.symbol ∙ t) es st.needed;
+  each = λ j. st.each j ∙ rw (same j) refl;
+}

@@ -1,24 +1,24 @@
 -- What ties the accepted messages of a log to the day after it.
-use Rattle.std.proofs.Common.{◌≡◌, ℕ, ◌+◌, ◌%◌, ◌^◌, ◌<◌, ◌≤◌, cond, eqb, false, List, length, Some, None, Option, arith}
+use Rattle.std.proofs.Common.{◌≡◌, ℕ, ◌+◌, ◌%◌, ◌^◌, ◌<◌, ◌≤◌, cond, eqb, true, false, List, length, Some, None, Option, arith}
 use Rattle.records.specs.declared.order.Order.{Order}
 use Rattle.records.specs.declared.execution.Execution.{Execution}
 use Rattle.records.specs.declared.symbol_row.SymbolRow.{SymbolRow}
-use Rattle.records.specs.Keys.{order_key, execution_key, symbol_key, row_worth}
+use Rattle.records.specs.Keys.{order_key, execution_key, symbol_key}
 use Rattle.store.specs.Lists.{Each, Rising, lookup}
 use Rattle.book.specs.Books.{sum}
 use Rattle.day_rules.specs.declared.outcome.Outcome.{Outcome}
 use Rattle.day_rules.specs.Days.{Day, greatest_limit}
 use Rattle.day_rules.specs.Events.{Event, clears, adds, executes, cancels, trades, breaks}
-use Rattle.day_rules.specs.Laws.{IsLeft}
-use Rattle.day_rules.specs.Rows.{execution_worth}
-use Rattle.day_rules.specs.Words.{History, Accepted, last_add, since_add, clear_among, taken_off, shares_added, shares_taken, shares_cleared, fills, times_broken}
+use Rattle.day_rules.specs.Rows.{execution_worth, row_of}
+use Rattle.day_rules.specs.Words.{History, Accepted, shares_added, shares_taken, shares_cleared, order_by, fills, times_broken, execution_by, row_needed}
 
--- as a line can give it: an ID and a symbol of 64 bits, ten digits of a price, six of shares
+-- as a line can give it: an ID and a symbol of 64 bits, ten digits of a price, six of shares, and at least one share
 pub record NarrowOrder (o : Order) : Type 0 where
   pub id : o.id < 2 ^ 64
   pub symbol : o.symbol < 2 ^ 64
   pub price : o.price ≤ 9999999999
   pub shares : o.shares ≤ 999999
+  pub least : 1 ≤ o.shares
 
 pub record NarrowFill (e : Execution) : Type 0 where
   pub id : e.id < 2 ^ 64
@@ -45,20 +45,6 @@ own_key n l = omega arith
 
 -- Orders.
 
--- an order that rests: as its last accepted add had it, less what was taken off since
-pub record Resting (h : History) (id : ℕ) (o : Order) : Type 0 where
-  pub added : Order
-  pub last : last_add id h ≡ Some added
-  pub same_id : o.id ≡ id
-  pub same_symbol : added.symbol ≡ o.symbol
-  pub same_price : added.price ≡ o.price
-  pub no_clear : clear_among added.symbol (since_add id h) ≡ false
-  pub left : o.shares + taken_off id (since_add id h) ≡ added.shares
-
-abbrev pub OrderStands : History → ℕ → Option Order → Type 0
-OrderStands h id None = IsLeft h id 0
-OrderStands h id (Some o) = Resting h id o
-
 -- an order's shares, if it is of the symbol
 abbrev pub shares_if : ℕ → Order → ℕ
 shares_if s o = cond (eqb o.symbol s) o.shares 0
@@ -67,7 +53,7 @@ pub record OrdersStand (h : History) (os : List Order) : Type 0 where
   pub rising : Rising order_key os
   pub narrow : Each NarrowOrder os
   pub count : length os ≤ length h
-  pub each : (id : ℕ) → OrderStands h id (lookup order_key id os)
+  pub each : (id : ℕ) → lookup order_key id os ≡ order_by id h
   pub balance : (s : ℕ) → shares_added s h ≡ sum (shares_if s) os + shares_taken s h + shares_cleared s h
 
 -- Executions.
@@ -76,6 +62,11 @@ pub record OrdersStand (h : History) (os : List Order) : Type 0 where
 abbrev pub broken_times : Option Execution → ℕ
 broken_times None = 0
 broken_times (Some e) = cond e.broken 1 0
+
+-- what is found under an Execution ID is what the log says, broken as often
+pub record Told (h : History) (x : ℕ) (found : Option Execution) : Type 0 where
+  pub times : times_broken x h ≡ broken_times found
+  pub is : found ≡ execution_by x h
 
 -- of an accepted execution or trade, by the log
 abbrev pub unless_broken : (Execution → ℕ) → History → Execution → ℕ
@@ -90,7 +81,7 @@ pub record FillsStand (h : History) (es : List Execution) : Type 0 where
   pub rising : Rising execution_key es
   pub narrow : Each NarrowFill es
   pub count : length es ≤ length h
-  pub marks : (x : ℕ) → times_broken x h ≡ broken_times (lookup execution_key x es)
+  pub each : (x : ℕ) → Told h x (lookup execution_key x es)
   pub same : (w : Execution → ℕ) → sum (unless_broken w h) (fills h) ≡ sum (unless_marked w) es
 
 -- Rows.
@@ -98,20 +89,19 @@ pub record FillsStand (h : History) (es : List Execution) : Type 0 where
 abbrev pub if_of : (Execution → ℕ) → ℕ → Execution → ℕ
 if_of w s e = cond (eqb e.symbol s) (w e) 0
 
--- what a row says, a missing one 0
-abbrev pub in_row : (SymbolRow → ℕ) → Option SymbolRow → ℕ
-in_row says None = 0
-in_row says (Some r) = says r
+-- what is counted of the unbroken ones of a symbol
+abbrev pub stored : (Execution → ℕ) → ℕ → List Execution → ℕ
+stored w s es = sum (unless_marked (if_of w s)) es
 
--- a row says what comes to so much of the unbroken ones
-abbrev pub Says : (SymbolRow → ℕ) → (Execution → ℕ) → List Execution → List SymbolRow → Type 0
-Says says w es rs = (s : ℕ) → in_row says (lookup symbol_key s rs) ≡ sum (unless_marked (if_of w s)) es
+-- the row that they come to
+abbrev pub row_stored : ℕ → List Execution → SymbolRow
+row_stored s es = row_of s (stored (λ e. e.shares) s es) (stored execution_worth s es)
 
-pub record RowsStand (es : List Execution) (rs : List SymbolRow) : Type 0 where
+-- a row stands just where the log needs one, as for the symbol of each stored execution, and says what they come to
+pub record RowsStand (h : History) (es : List Execution) (rs : List SymbolRow) : Type 0 where
   pub rising : Rising symbol_key rs
-  pub narrow : Each (λ r. r.symbol < 2 ^ 64) rs
-  pub volume : Says (λ r. r.volume) (λ e. e.shares) es rs
-  pub value : Says row_worth execution_worth es rs
+  pub needed : Each (λ e. row_needed e.symbol h ≡ true) es
+  pub each : (s : ℕ) → lookup symbol_key s rs ≡ cond (row_needed s h) (Some (row_stored s es)) None
 
 -- All of it.
 pub record Stands (h : History) (d : Day) : Type 0 where
@@ -120,4 +110,4 @@ pub record Stands (h : History) (d : Day) : Type 0 where
   pub within : d.accepted ≤ greatest_limit
   pub orders : OrdersStand h d.orders.rows
   pub fills : FillsStand h d.executions.rows
-  pub rows : RowsStand d.executions.rows d.symbols.rows
+  pub rows : RowsStand h d.executions.rows d.symbols.rows

@@ -1,6 +1,6 @@
 -- Each accepted message leaves a day that the log stands for.
-use Rattle.std.proofs.Common.{◌≡◌, ℕ, ◌<◌, ◌≤◌, Bool, true, false, cond, eqb, ltb, ◌∷◌, length, Some, None, Ok, Err, Option, Result, refl, sym, subst, arith}
-use Rattle.std.proofs.lemmas.Bool.{cond_both, eqb-true, ltb-false}
+use Rattle.std.proofs.Common.{◌≡◌, ℕ, ◌<◌, ◌≤◌, Bool, true, false, cond, eqb, ltb, ◌||◌, ◌∷◌, length, Some, None, Ok, Err, Option, Result, refl, sym, ap, ◌∙◌, arith}
+use Rattle.std.proofs.lemmas.Bool.{cond_both, eqb-true, eqb-false, ltb-false}
 use Rattle.records.specs.declared.order.Order.{Order}
 use Rattle.records.specs.declared.execution.Execution.{Execution}
 use Rattle.records.specs.Keys.{order_key, execution_key}
@@ -12,11 +12,11 @@ use Rattle.day_rules.specs.declared.outcome.Outcome.{Outcome}
 use Rattle.day_rules.specs.Days.{Day, with_orders, greatest_limit}
 use Rattle.day_rules.specs.Events.{Event, clears, adds, executes, cancels, trades, breaks}
 use Rattle.day_rules.specs.Rules.{order_in, execution_in, is_full, lacks_row, may_rest, shares_at_hand, may_trade, may_execute, may_cancel, unbroken, may_break, allowed, less_shares, reduced, fill_of, filled, executed, cancelled, broken, after, cleared, outcome, counted}
-use Rattle.day_rules.specs.Words.{History, fills, then_fill, breaks_of}
-use Rattle.day_rules.proofs.Standing.{NarrowFill, NarrowOrder, EventFits, Resting, OrderStands, OrdersStand, FillsStand, RowsStand, Stands, said, own_key}
-use Rattle.day_rules.proofs.Orders.{Takes, Spares, add-stands, lessened, emptied, clear-stands, spare-stands}
+use Rattle.day_rules.specs.Words.{History, fills, then_fill, breaks_of, row_needed}
+use Rattle.day_rules.proofs.Standing.{NarrowFill, NarrowOrder, EventFits, OrdersStand, FillsStand, RowsStand, Stands, said, own_key}
+use Rattle.day_rules.proofs.Orders.{Resting, rests-by, Takes, Spares, add-stands, lessened, emptied, clear-stands, spare-stands}
 use Rattle.day_rules.proofs.Fills.{pass-stands, fill-stands, break-stands}
-use Rattle.day_rules.proofs.Rows.{fill_rows, add_rows, break_rows}
+use Rattle.day_rules.proofs.Rows.{add-rows, fill-rows, break-rows, pass-rows, added-row, none-more}
 use Rattle.day_rules.proofs.Depths.{clear_reports}
 
 -- a check that passed
@@ -41,13 +41,14 @@ spared-by-break : (x : ℕ) → Spares (breaks x)
 spared-by-break x = record { skips = λ id. (refl, refl); clears_none = λ s. refl; brings_none = λ s. refl; reports_none = λ s a. refl; off_none = λ s h. refl }
 
 module _ (h : History) (d : Day) (st : Stands h d) where
-  pub few_orders : length d.orders.rows ≤ greatest_limit
-  few_orders = let n = st.orders.count in let c = st.count in let w = st.within in omega arith
+  -- there are no more records than messages
+  pub few : (n : ℕ) → n ≤ length h → n ≤ greatest_limit
+  few n l = let c = st.count in let w = st.within in omega arith
 
 module _ (h : History) (d : Day) (st : Stands h d) (room : d.accepted < d.day_limit) where
   -- the orders, the executions and the rows stand, each for itself
   stand : (e : Event) (answered : Outcome) (now : Day) → now.accepted ≡ d.accepted → now.day_limit ≡ d.day_limit
-      → OrdersStand (said e answered ∷ h) now.orders.rows → FillsStand (said e answered ∷ h) now.executions.rows → RowsStand now.executions.rows now.symbols.rows
+      → OrdersStand (said e answered ∷ h) now.orders.rows → FillsStand (said e answered ∷ h) now.executions.rows → RowsStand (said e answered ∷ h) now.executions.rows now.symbols.rows
       → Stands (said e answered ∷ h) (counted now)
   stand e answered now counts limit orders fills rows =
       let c = st.count in
@@ -60,9 +61,9 @@ module _ (h : History) (d : Day) (st : Stands h d) (room : d.accepted < d.day_li
   after_clear : (c : ℕ) → Stands (said (clears c) (cleared c d) ∷ h) (counted (after (clears c) d))
   after_clear c =
       stand (clears c) (cleared c d) (after (clears c) d) refl refl
-      (clear-stands h d.orders.rows st.orders (cleared c d) c (clear_reports d.orders.rows st.orders.narrow (few_orders h d st) c))
+      (clear-stands h d.orders.rows st.orders (cleared c d) c (clear_reports d.orders.rows st.orders.narrow (few h d st _ st.orders.count) c))
       (pass-stands h d.executions.rows st.fills (cleared c d) (clears c) (λ x. refl) refl)
-      st.rows
+      (pass-rows h _ d.executions.rows d.symbols.rows (λ j. refl) st.rows)
 
   after_add : (o : Order) (answered : Outcome) → NarrowOrder o → may_rest o d ≡ Ok tt → Stands (said (adds o) answered ∷ h) (counted (after (adds o) d))
   after_add o answered fits ok =
@@ -73,12 +74,12 @@ module _ (h : History) (d : Day) (st : Stands h d) (room : d.accepted < d.day_li
       stand (adds o) answered (after (adds o) d) refl refl
       (rw (joins order_key o d.orders free_by_key place.0) (add-stands h d.orders.rows st.orders answered o fits free.0))
       (pass-stands h d.executions.rows st.fills answered (adds o) (λ x. refl) refl)
-      (add_rows o.symbol fits.symbol d.executions.rows d.symbols st.rows row.0)
+      (add-rows h (said (adds o) answered ∷ h) o.symbol fits.symbol (λ j. refl) d.executions.rows d.symbols st.rows row.0)
 
   -- an execution or a trade, by what it leaves of the orders
   after_fill : (e : Event) (answered : Outcome) (m : Model Order) (f : Execution) → OrdersStand (said e answered ∷ h) m.rows → ((x : ℕ) → breaks_of x e ≡ 0) → then_fill e h (fills h) ≡ f ∷ fills h
-      → NarrowFill f → f.broken ≡ false → may_trade f.id f.symbol d ≡ Ok tt → Stands (said e answered ∷ h) (counted (filled f (with_orders m d)))
-  after_fill e answered m f orders no_break is fits whole ok =
+      → ((j : ℕ) → row_needed j (said e answered ∷ h) ≡ (eqb f.symbol j || row_needed j h)) → NarrowFill f → f.broken ≡ false → may_trade f.id f.symbol d ≡ Ok tt → Stands (said e answered ∷ h) (counted (filled f (with_orders m d)))
+  after_fill e answered m f orders no_break is needs fits whole ok =
       let free = passed (holds execution_key f.id d.executions.rows) _ _ ok in
       let place = passed (is_full d.executions) _ _ free.1 in
       let row = passed (lacks_row f.symbol d) _ _ place.1 in
@@ -87,7 +88,7 @@ module _ (h : History) (d : Day) (st : Stands h d) (room : d.accepted < d.day_li
       stand e answered (filled f (with_orders m d)) refl refl
       orders
       (rw joined (fill-stands h d.executions.rows st.fills answered e no_break f is fits whole free.0))
-      (rw joined (fill_rows f whole fits d.executions.rows st.fills.narrow few_fills d.symbols st.rows row.0))
+      (rw joined (fill-rows h (said e answered ∷ h) f whole fits needs d.executions.rows st.fills.narrow d.symbols st.rows few_fills row.0))
 
   -- shares taken off an order
   module _ (i n : ℕ) (o : Order) (e : Event) (takes : Takes i n e) (answered : Outcome) (found : order_in i d ≡ Some o) (enough : ltb o.shares n ≡ false) where
@@ -96,7 +97,7 @@ module _ (h : History) (d : Day) (st : Stands h d) (room : d.accepted < d.day_li
         let l = ltb-false o.shares n enough in
         cond_both (eqb o.shares n) (removing order_key o.id d.orders) (replacing order_key (less_shares n o) d.orders) (λ m. OrdersStand (said e answered ∷ h) m.rows)
         (λ t. emptied h d.orders.rows st.orders answered i n o e takes found l (sym (eqb-true o.shares n t)))
-        (λ t. lessened h d.orders.rows st.orders answered i n o e takes found l)
+        (λ t. lessened h d.orders.rows st.orders answered i n o e takes found l (λ m. eqb-false o.shares n t (sym m)))
 
   at_hand : (b : Bool) (f : LedgerFault) (o : Order) (x : ℕ) → may_execute x d (cond b (Err f) (Ok o)) ≡ Ok tt → (b ≡ false) × (may_trade x o.symbol d ≡ Ok tt)
   at_hand true f o x e = cc
@@ -107,12 +108,13 @@ module _ (h : History) (d : Day) (st : Stands h d) (room : d.accepted < d.day_li
   after_execution i n x answered fits None is ok = cc
   after_execution i n x answered fits (Some o) is ok =
       let a = at_hand (ltb o.shares n) _ o x ok in
-      let rests : Resting h i o = subst (OrderStands h i) is (st.orders.each i) in
+      let rests : Resting h i o = rests-by h i o (sym (st.orders.each i) ∙ is) in
       let narrow = found-each order_key NarrowOrder i d.orders.rows o st.orders.narrow is in
       after_fill (executes i n x) answered (reduced n o d).orders (fill_of x n o)
       (few_left i n o (executes i n x) (taken-by-execution i n x) answered is a.0)
       (λ y. refl)
-      (rw rests.last (rw (rests.same_symbol, rests.same_price) refl))
+      (rw rests.last (ap (λ p. fill_of x n p ∷ fills h) (sym rests.less)))
+      (none-more h o.symbol (ap (λ p. row_needed p.symbol h) rests.less ∙ added-row h i rests.added rests.last))
       (record { id = fits.2; symbol = narrow.symbol; price = narrow.price; shares = fits.1 })
       refl
       a.1
@@ -128,11 +130,11 @@ module _ (h : History) (d : Day) (st : Stands h d) (room : d.accepted < d.day_li
       stand (cancels i n) answered (reduced n o d) refl refl
       (few_left i n o (cancels i n) (taken-by-cancel i n) answered is (in_hand (ltb o.shares n) _ o ok))
       (pass-stands h d.executions.rows st.fills answered (cancels i n) (λ x. refl) refl)
-      st.rows
+      (pass-rows h _ d.executions.rows d.symbols.rows (λ j. refl) st.rows)
 
   after_trade : (e : Execution) (answered : Outcome) → NarrowFill e → e.broken ≡ false → may_trade e.id e.symbol d ≡ Ok tt → Stands (said (trades e) answered ∷ h) (counted (filled e d))
   after_trade e answered fits whole ok =
-      after_fill (trades e) answered d.orders e (spare-stands h d.orders.rows st.orders answered (trades e) (spared-by-trade e)) (λ x. refl) refl fits whole ok
+      after_fill (trades e) answered d.orders e (spare-stands h d.orders.rows st.orders answered (trades e) (spared-by-trade e)) (λ x. refl) refl (λ j. refl) fits whole ok
 
   still_whole : (b : Bool) (f : LedgerFault) (e : Execution) → may_break (cond b (Err f) (Ok e)) ≡ Ok tt → b ≡ false
   still_whole true f e is = cc
@@ -145,11 +147,12 @@ module _ (h : History) (d : Day) (st : Stands h d) (room : d.accepted < d.day_li
       let whole = still_whole e.broken _ e ok in
       let found_by_key : lookup execution_key (execution_key e) d.executions.rows ≡ Some e = rw (found-key execution_key x d.executions.rows e is) is in
       let narrow = found-each execution_key NarrowFill x d.executions.rows e st.fills.narrow is in
+      let needed = found-each execution_key (λ f. row_needed f.symbol h ≡ true) x d.executions.rows e st.rows.needed is in
       let few = few_fills in
       stand (breaks x) answered (broken (Some e) d) refl refl
       (spare-stands h d.orders.rows st.orders answered (breaks x) (spared-by-break x))
       (break-stands h d.executions.rows st.fills answered x e is whole)
-      (break_rows e whole d.executions.rows found_by_key st.fills.narrow (omega arith) d.symbols st.rows narrow.symbol)
+      (break-rows h (said (breaks x) answered ∷ h) e whole narrow (none-more h e.symbol needed) d.executions.rows st.fills.narrow d.symbols st.rows (omega arith) found_by_key)
 
   -- any message
   pub step : (e : Event) → EventFits e → allowed e d ≡ Ok tt → Stands (said e (outcome e d) ∷ h) (counted (after e d))

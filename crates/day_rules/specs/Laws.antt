@@ -1,15 +1,19 @@
 -- What a log adds up to.
-use Rattle.std.specs.Prelude.{◌≡◌, ℕ, ◌+◌, ◌≤◌, true, false, Some, None, Option}
+use Rattle.std.specs.Prelude.{◌≡◌, ℕ, ◌+◌, ◌*◌, ◌≤◌, true, false, List, length, Some, None, Err, Option}
 use Rattle.messages.specs.declared.code.Side.{Side}
 use Rattle.messages.specs.declared.code.Side.TheVariants.{Buy, Sell}
 use Rattle.records.specs.declared.order.Order.{Order}
 use Rattle.records.specs.declared.symbol_row.SymbolRow.{SymbolRow}
 use Rattle.records.specs.Keys.{row_worth}
+use Rattle.records.specs.Values.{worth}
+use Rattle.book.specs.declared.turnover.Turnover.{Turnover}
+use Rattle.book.specs.Books.{sum}
+use Rattle.day_rules.specs.declared.fault.LedgerFault.{LedgerFault}
 use Rattle.day_rules.specs.Days.{Day}
 use Rattle.day_rules.specs.Log.{Log, Logged}
-use Rattle.day_rules.specs.Questions.{book_in}
-use Rattle.day_rules.specs.Rules.{order_in, row_in}
-use Rattle.day_rules.specs.Words.{History, history, last_add, since_add, clear_among, taken_off, shares_added, shares_taken, shares_cleared, times_broken, volume_of, value_of}
+use Rattle.day_rules.specs.Questions.{book_in, market_in}
+use Rattle.day_rules.specs.Rules.{order_in, execution_in, row_in, answer, next}
+use Rattle.day_rules.specs.Words.{History, history, last_add, since_add, clear_among, taken_off, shares_added, shares_taken, shares_cleared, times_broken, volume_of, value_of, order_by, execution_by, row_by, all_traded}
 
 -- What is asked after the log. A missing order or row counts as 0.
 
@@ -66,12 +70,42 @@ TurnoverAddsUp log d = (symbol : ℕ) → IsTraded (history log) symbol (volume_
 abbrev pub NoneBrokenTwice : Log → Type 0
 NoneBrokenTwice log = (x : ℕ) → times_broken x (history log) ≤ 1
 
+-- Each question's reply is what the log says.
+
+abbrev pub OrdersAsAdded : Log → Day → Type 0
+OrdersAsAdded log d = (id : ℕ) → order_in id d ≡ order_by id (history log)
+
+abbrev pub ExecutionsAsAccepted : Log → Day → Type 0
+ExecutionsAsAccepted log d = (x : ℕ) → execution_in x d ≡ execution_by x (history log)
+
+abbrev pub RowsAsTraded : Log → Day → Type 0
+RowsAsTraded log d = (symbol : ℕ) → row_in symbol d ≡ row_by symbol (history log)
+
+-- all symbols' volume and value together are the sums over all accepted, unbroken executions and trades
+abbrev pub IsMarket : History → Turnover → Type 0
+IsMarket h t = (t.volume.number ≡ sum (λ e. e.shares) (all_traded h)) × (worth t.value ≡ sum (λ e. e.shares * e.price) (all_traded h))
+
+abbrev pub MarketAddsUp : Log → Day → Type 0
+MarketAddsUp log d = IsMarket (history log) (market_in d)
+
+abbrev pub AcceptedAreCounted : Log → Day → Type 0
+AcceptedAreCounted log d = d.accepted ≡ length (history log)
+
 -- All this holds of every log since a ledger's opening, and of the day that the ledger keeps after it.
 pub record LogLaws (log : Log) (d : Day) : Type 0 where
   pub shares_balance : SharesBalance log d
   pub orders_add_up : OrdersAddUp log d
   pub turnover_adds_up : TurnoverAddsUp log d
   pub none_broken_twice : NoneBrokenTwice log
+  pub orders_as_added : OrdersAsAdded log d
+  pub executions_as_accepted : ExecutionsAsAccepted log d
+  pub rows_as_traded : RowsAsTraded log d
+  pub market_adds_up : MarketAddsUp log d
+  pub accepted_are_counted : AcceptedAreCounted log d
 
 abbrev pub EveryLog : Type 0
 EveryLog = (log : Log) (d : Day) → Logged log d → LogLaws log d
+
+-- A refused line changes nothing.
+abbrev pub RefusedUnchanged : Type 0
+RefusedUnchanged = (line : List ℕ) (d : Day) (f : LedgerFault) → answer line d ≡ Err f → next line d ≡ d

@@ -5,11 +5,14 @@ use Rattle.messages.specs.declared.message.Message.{Message}
 use Rattle.messages.specs.Telling.{line_message}
 use Rattle.records.specs.declared.order.Order.{Order}
 use Rattle.records.specs.declared.execution.Execution.{Execution}
+use Rattle.records.specs.declared.symbol_row.SymbolRow.{SymbolRow}
 use Rattle.store.specs.Lists.{those}
 use Rattle.book.specs.Books.{sum}
 use Rattle.day_rules.specs.declared.outcome.Outcome.{Outcome}
 use Rattle.day_rules.specs.Events.{Event, clears, adds, executes, cancels, trades, breaks, event_of}
 use Rattle.day_rules.specs.Log.{Log, told, asked}
+use Rattle.day_rules.specs.Rows.{row_of}
+use Rattle.day_rules.specs.Rules.{less_shares, marked}
 
 -- an accepted message, by what its line says, and its answer
 pub record Accepted : Type 0 where
@@ -148,3 +151,47 @@ volume_of symbol h = sum (λ e. e.shares) (traded symbol h)
 -- their shares times their prices
 abbrev pub value_of : ℕ → History → ℕ
 value_of symbol h = sum (λ e. e.shares * e.price) (traded symbol h)
+
+-- What questions are answered, in words of the log.
+
+-- the accepted execution or trade with the Execution ID
+abbrev pub fill_with : ℕ → List Execution → Option Execution
+fill_with x [] = None
+fill_with x (e ∷ es) = cond (e.id == x) (Some e) (fill_with x es)
+
+-- marked as broken, if it was broken any times
+abbrev pub marked_if : ℕ → Option Execution → Option Execution
+marked_if times None = None
+marked_if times (Some e) = Some (cond (times == 0) e (marked e))
+
+-- the execution or trade with the Execution ID, as it was accepted, broken if an accepted break carries the ID
+abbrev pub execution_by : ℕ → History → Option Execution
+execution_by x h = marked_if (times_broken x h) (fill_with x (fills h))
+
+-- what is left of an order after a clear, or after so many shares were taken off
+abbrev pub left_of_add : Option Order → (since : History) → ℕ → Option Order
+left_of_add None since id = None
+left_of_add (Some o) since id = cond (clear_among o.symbol since || taken_off id since == o.shares) None (Some (less_shares (taken_off id since) o))
+
+-- the order that rests under the Order ID: as its last accepted add had it, less what was taken off since; none if a clear came since, or no share is left
+abbrev pub order_by : ℕ → History → Option Order
+order_by id h = left_of_add (last_add id h) (since_add id h) id
+
+-- a message that needs a row for the symbol; an execution's symbol has one from its order's add
+abbrev pub needs_row : ℕ → Event → Bool
+needs_row symbol (adds o) = o.symbol == symbol
+needs_row symbol (trades e) = e.symbol == symbol
+needs_row symbol event = false
+
+-- some accepted message did
+abbrev pub row_needed : ℕ → History → Bool
+row_needed symbol [] = false
+row_needed symbol (a ∷ h) = needs_row symbol a.event || row_needed symbol h
+
+-- the row of the symbol, once some accepted message needed one: with the volume and the value of its accepted, unbroken executions and trades
+abbrev pub row_by : ℕ → History → Option SymbolRow
+row_by symbol h = cond (row_needed symbol h) (Some (row_of symbol (volume_of symbol h) (value_of symbol h))) None
+
+-- the accepted, unbroken executions and trades of all symbols
+abbrev pub all_traded : History → List Execution
+all_traded h = those (λ e. times_broken e.id h == 0) (fills h)

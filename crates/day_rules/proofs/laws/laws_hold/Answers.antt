@@ -1,5 +1,6 @@
 use Rattle.day_rules.proofs.Logs.{every_log}
+use Rattle.day_rules.proofs.Refusing.{refused-unchanged}
 use Rattle.day_rules.proofs.laws.laws_hold.Goals as goal
 
 pub returns : goal.returns
-returns c = every_log
+returns c = record { every_log = every_log; refused = refused-unchanged }
