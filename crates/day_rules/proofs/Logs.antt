@@ -15,12 +15,12 @@ use Rattle.book.specs.Books.{sum}
 use Rattle.day_rules.specs.declared.fault.LedgerFault.{LedgerFault}
 use Rattle.day_rules.specs.Days.{Day}
 use Rattle.day_rules.specs.Events.{event_of}
-use Rattle.day_rules.specs.Laws.{IsLeftOf, IsTraded, IsMarket, shares_of, volume_in, value_in, EveryLog}
+use Rattle.day_rules.specs.Laws.{IsLeftOf, IsTraded, IsMarket, shares_of, volume_in, value_in, EveryLog, IsBalanced, IsLeft}
 use Rattle.day_rules.specs.Log.{Log, IsOpening, Logged, told, asked}
 use Rattle.day_rules.specs.Questions.{market_in}
 use Rattle.day_rules.specs.Rows.{execution_worth, row_of, row_or_new}
 use Rattle.day_rules.specs.Rules.{less_shares, row_in, allowed, permitted, outcome, after, counted, or_refused, or_same, message_answer, message_after, answer, next}
-use Rattle.day_rules.specs.Words.{History, history, last_add, since_add, clear_among, taken_off, left_of_add, fills, counts_for, traded, times_broken, volume_of, value_of, all_traded}
+use Rattle.day_rules.specs.Words.{History, history, last_add, since_add, clear_among, taken_off, left_of_add, fills, counts_for, traded, times_broken, volume_of, value_of, all_traded, order_by, execution_by, row_by}
 use Rattle.day_rules.proofs.Depths.{resting}
 use Rattle.day_rules.proofs.Fits.{line-fits}
 use Rattle.day_rules.proofs.Standing.{NarrowOrder, broken_times, unless_broken, unless_marked, if_of, stored, row_stored, Stands}
@@ -73,6 +73,7 @@ module _ (h : History) (d : Day) (st : Stands h d) where
   row_says s = row-now h d.executions.rows d.symbols.rows st.rows s (row_in s d) refl ∙ row_by_log s
 
   turnover : (s : ℕ) → IsTraded h s (volume_in (row_in s d)) (value_in (row_in s d))
+  unfolding IsTraded
   turnover s = (
     volume_in_row s (row_in s d) ∙ ap (λ r. r.volume) (row_says s),
     value_in_row s (row_in s d) ∙ ap row_worth (row_says s) ∙ parted (value_of s h),
@@ -82,6 +83,7 @@ module _ (h : History) (d : Day) (st : Stands h d) where
   stored-all w = sym (sum-those w (λ e. eqb (times_broken e.id h) 0) (fills h) ∙ st.fills.same w)
 
   market : IsMarket h (market_in d)
+  unfolding IsMarket
   market = (
     all-shares h d.executions.rows d.symbols.rows st.rows st.fills.narrow (few h d st _ st.fills.count) ∙ stored-all (λ e. e.shares),
     all-worth h d.executions.rows d.symbols.rows st.rows st.fills.narrow (few h d st _ st.fills.count) ∙ stored-all execution_worth,
@@ -90,6 +92,7 @@ module _ (h : History) (d : Day) (st : Stands h d) where
 -- What is logged, a day stands for.
 
 opened : (d : Day) → IsOpening d → Stands [] d
+unfolding order_by execution_by
 opened d o =
     let none = o.accepted in
     let limit = o.day_limit in
@@ -124,6 +127,7 @@ logged_stands (told line answered ∷ log) d l = rw (l.2, l.3) (line_stands line
 logged_stands (asked q replied ∷ log) d l = logged_stands log d l.0
 
 pub every_log : EveryLog
+unfolding IsBalanced IsLeft order_by row_by
 every_log log d l =
     let st = logged_stands log d l in
     let os = st.orders in

@@ -93,6 +93,7 @@ module _ (h : History) (a : Accepted) (id : ℕ) (none : is_add id a.event ≡ f
   since_last (Some o) since e = one_by_one (λ s. is_clear s a.event) (clear_among o.symbol since) (taken_off id since) (off_order id a.event) o e
 
   left_later : Enough (off_order id a.event) (order_by id h) → order_by id (a ∷ h) ≡ later (order_by id h)
+  unfolding order_by
   left_later e = let last = unadded id a.event (last_add id h) none in rw (last, none) (since_last (last_add id h) (since_add id h) e)
 
 -- an order that rests: as its last accepted add had it, less what was taken off since
@@ -106,6 +107,7 @@ is_left true p o e = cc
 is_left false p o e = cc
 
 pub rests-by : (h : History) (id : ℕ) (o : Order) → order_by id h ≡ Some o → Resting h id o
+unfolding order_by
 rests-by h id o e = by_last (last_add id h) refl e
   where
     by_last : (last : Option Order) → last_add id h ≡ last → left_of_add last (since_add id h) id ≡ Some o → Resting h id o
@@ -169,6 +171,7 @@ module _ (h : History) (os : List Order) (st : OrdersStand h os) (answered : Out
 
   -- an order comes to rest
   pub add-stands : (o : Order) → NarrowOrder o → holds order_key o.id os ≡ false → OrdersStand (said (adds o) answered ∷ h) (placed order_key o os)
+  unfolding order_by
   add-stands o fits free =
       let rests : order_by o.id (said (adds o) answered ∷ h) ≡ Some o = rw (eq-eqb o.id o.id refl) (untouched o fits.least) in
       let changed = placing order_key o.id os st.rising o (own_key o.id fits.id) free in

@@ -39,7 +39,7 @@ value_in None = 0
 value_in (Some r) = row_worth r
 
 -- A symbol's shares: those of accepted adds are those resting, those of accepted executions and cancels, and those that accepted clears report.
-abbrev pub IsBalanced : History → (symbol resting : ℕ) → Type 0
+unfoldable pub IsBalanced : History → (symbol resting : ℕ) → Type 0
 IsBalanced h symbol resting = shares_added symbol h ≡ resting + shares_taken symbol h + shares_cleared symbol h
 
 -- An order's shares: 0 for an ID that was never added; 0 if a clear of its last add's symbol came since; else that add's shares less those of the executions and cancels since.
@@ -48,11 +48,11 @@ IsLeftOf None since id left = left ≡ 0
 IsLeftOf (Some o) since id left =
     (clear_among o.symbol since ≡ true → left ≡ 0) × (clear_among o.symbol since ≡ false → left + taken_off id since ≡ o.shares)
 
-abbrev pub IsLeft : History → (id left : ℕ) → Type 0
+unfoldable pub IsLeft : History → (id left : ℕ) → Type 0
 IsLeft h id left = IsLeftOf (last_add id h) (since_add id h) id left
 
 -- A symbol's volume and value: the sums over its accepted, unbroken executions and trades.
-abbrev pub IsTraded : History → (symbol volume value : ℕ) → Type 0
+unfoldable pub IsTraded : History → (symbol volume value : ℕ) → Type 0
 IsTraded h symbol volume value = (volume ≡ volume_of symbol h) × (value ≡ value_of symbol h)
 
 -- For every symbol and every Order ID.
@@ -82,7 +82,7 @@ abbrev pub RowsAsTraded : Log → Day → Type 0
 RowsAsTraded log d = (symbol : ℕ) → row_in symbol d ≡ row_by symbol (history log)
 
 -- all symbols' volume and value together are the sums over all accepted, unbroken executions and trades
-abbrev pub IsMarket : History → Turnover → Type 0
+unfoldable pub IsMarket : History → Turnover → Type 0
 IsMarket h t = (t.volume.number ≡ sum (λ e. e.shares) (all_traded h)) × (worth t.value ≡ sum (λ e. e.shares * e.price) (all_traded h))
 
 abbrev pub MarketAddsUp : Log → Day → Type 0

@@ -165,7 +165,7 @@ marked_if times None = None
 marked_if times (Some e) = Some (cond (times == 0) e (marked e))
 
 -- the execution or trade with the Execution ID, as it was accepted, broken if an accepted break carries the ID
-abbrev pub execution_by : ℕ → History → Option Execution
+unfoldable pub execution_by : ℕ → History → Option Execution
 execution_by x h = marked_if (times_broken x h) (fill_with x (fills h))
 
 -- what is left of an order after a clear, or after so many shares were taken off
@@ -174,7 +174,7 @@ left_of_add None since id = None
 left_of_add (Some o) since id = cond (clear_among o.symbol since || taken_off id since == o.shares) None (Some (less_shares (taken_off id since) o))
 
 -- the order that rests under the Order ID: as its last accepted add had it, less what was taken off since; none if a clear came since, or no share is left
-abbrev pub order_by : ℕ → History → Option Order
+unfoldable pub order_by : ℕ → History → Option Order
 order_by id h = left_of_add (last_add id h) (since_add id h) id
 
 -- a message that needs a row for the symbol; an execution's symbol has one from its order's add
@@ -189,7 +189,7 @@ row_needed symbol [] = false
 row_needed symbol (a ∷ h) = needs_row symbol a.event || row_needed symbol h
 
 -- the row of the symbol, once some accepted message needed one: with the volume and the value of its accepted, unbroken executions and trades
-abbrev pub row_by : ℕ → History → Option SymbolRow
+unfoldable pub row_by : ℕ → History → Option SymbolRow
 row_by symbol h = cond (row_needed symbol h) (Some (row_of symbol (volume_of symbol h) (value_of symbol h))) None
 
 -- the accepted, unbroken executions and trades of all symbols

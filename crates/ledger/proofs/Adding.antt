@@ -1,29 +1,53 @@
 -- What a log adds up to, of whatever answers and leaves what the rules say.
-use Rattle.std.proofs.Common.{◌≡◌, ℕ, ◌+◌, List, ◌∷◌, Option, Result, sym, subst, ap, ◌∙◌, arith}
+use Rattle.std.proofs.Common.{◌≡◌, ℕ, ◌+◌, List, ◌∷◌, length, Ok, Err, Option, Result, OnErr, sym, ◌∙◌, arith}
 use Rattle.messages.specs.declared.code.Side.{Side}
 use Rattle.messages.specs.declared.code.Side.TheVariants.{Buy, Sell}
 use Rattle.records.specs.declared.order.Order.{Order}
+use Rattle.records.specs.declared.execution.Execution.{Execution}
 use Rattle.records.specs.declared.symbol_row.SymbolRow.{SymbolRow}
 use Rattle.book.specs.declared.book.Book.{Book}
+use Rattle.book.specs.declared.turnover.Turnover.{Turnover}
 use Rattle.day_rules.specs.declared.fault.LedgerFault.{LedgerFault}
 use Rattle.day_rules.specs.declared.outcome.Outcome.{Outcome}
 use Rattle.day_rules.specs.Days.{Day}
-use Rattle.day_rules.specs.Laws.{IsBalanced, IsLeft, IsTraded, shares_of, volume_in, value_in, other_side, LogLaws}
+use Rattle.day_rules.specs.Laws.{IsBalanced, IsLeft, IsTraded, IsMarket, shares_of, volume_in, value_in, other_side, LogLaws}
 use Rattle.day_rules.specs.Log.{Log, Logged, told}
-use Rattle.day_rules.specs.Questions.{book_in}
-use Rattle.day_rules.specs.Rules.{answer, next, order_in, row_in}
-use Rattle.day_rules.specs.Words.{history}
+use Rattle.day_rules.specs.Questions.{book_in, market_in}
+use Rattle.day_rules.specs.Rules.{answer, next, order_in, execution_in, row_in}
+use Rattle.day_rules.specs.Words.{history, order_by, execution_by, row_by}
 use Rattle.day_rules.proofs.Logs.{every_log}
+use Rattle.day_rules.proofs.Refusing.{refused-unchanged}
 
 pub after_line : (line : List ℕ) (log : Log) (d e : Day) (r : Result Outcome LedgerFault) → Logged log d → r ≡ answer line d → e ≡ next line d → LogLaws (told line r ∷ log) e
 after_line line log d e r h says leaves = every_log (told line r ∷ log) e (d, h, says, leaves)
 
-pub order_left : (log : Log) (d : Day) (id : ℕ) (r : Option Order) → r ≡ order_in id d → Logged log d → IsLeft (history log) id (shares_of r)
-order_left log d id r e h = rw e ((every_log log d h).orders_add_up id)
+pub order_left : (log : Log) (d : Day) (id : ℕ) (r : Option Order) → Logged log d → r ≡ order_in id d → IsLeft (history log) id (shares_of r)
+order_left log d id r h e = rw e ((every_log log d h).orders_add_up id)
 
-pub row_traded : (log : Log) (d : Day) (symbol : ℕ) (r : Option SymbolRow) → r ≡ row_in symbol d → Logged log d → IsTraded (history log) symbol (volume_in r) (value_in r)
-row_traded log d symbol r e h = rw e ((every_log log d h).turnover_adds_up symbol)
+pub row_traded : (log : Log) (d : Day) (symbol : ℕ) (r : Option SymbolRow) → Logged log d → r ≡ row_in symbol d → IsTraded (history log) symbol (volume_in r) (value_in r)
+row_traded log d symbol r h e = rw e ((every_log log d h).turnover_adds_up symbol)
 
-pub book_balances : (log : Log) (d : Day) (symbol : ℕ) (side : Side) (r : Book) → r ≡ book_in symbol side d → Logged log d → IsBalanced (history log) symbol (r.depth.shares.number + (book_in symbol (other_side side) d).depth.shares.number)
-book_balances log d symbol Buy r e h = rw e ((every_log log d h).shares_balance symbol)
-book_balances log d symbol Sell r e h = rw e (let b = (every_log log d h).shares_balance symbol in omega arith)
+pub book_balances : (log : Log) (d : Day) (symbol : ℕ) (side : Side) (r : Book) → Logged log d → r ≡ book_in symbol side d → IsBalanced (history log) symbol (r.depth.shares.number + (book_in symbol (other_side side) d).depth.shares.number)
+unfolding IsBalanced
+book_balances log d symbol Buy r h e = rw e ((every_log log d h).shares_balance symbol)
+book_balances log d symbol Sell r h e = rw e (let b = (every_log log d h).shares_balance symbol in omega arith)
+
+pub order_told : (log : Log) (d : Day) (id : ℕ) (r : Option Order) → Logged log d → r ≡ order_in id d → r ≡ order_by id (history log)
+order_told log d id r h e = e ∙ (every_log log d h).orders_as_added id
+
+pub execution_told : (log : Log) (d : Day) (id : ℕ) (r : Option Execution) → Logged log d → r ≡ execution_in id d → r ≡ execution_by id (history log)
+execution_told log d id r h e = e ∙ (every_log log d h).executions_as_accepted id
+
+pub row_told : (log : Log) (d : Day) (symbol : ℕ) (r : Option SymbolRow) → Logged log d → r ≡ row_in symbol d → r ≡ row_by symbol (history log)
+row_told log d symbol r h e = e ∙ (every_log log d h).rows_as_traded symbol
+
+pub market_told : (log : Log) (d : Day) (r : Turnover) → Logged log d → r ≡ market_in d → IsMarket (history log) r
+market_told log d r h e = rw e ((every_log log d h).market_adds_up)
+
+pub accepted_told : (log : Log) (d : Day) (n : ℕ) → Logged log d → n ≡ d.accepted → n ≡ length (history log)
+accepted_told log d n h e = e ∙ (every_log log d h).accepted_are_counted
+
+-- a refused line changes nothing
+pub refusal_keeps : (line : List ℕ) (d e : Day) (r : Result Outcome LedgerFault) → r ≡ answer line d → e ≡ next line d → OnErr r (e ≡ d)
+refusal_keeps line d e (Ok a) says leaves = tt
+refusal_keeps line d e (Err f) says leaves = leaves ∙ refused-unchanged line d f (sym says)

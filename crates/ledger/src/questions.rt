@@ -1,13 +1,13 @@
 // What a ledger is asked. Questions change nothing; what they answer of shares, volume and value is what the log adds up to.
-ghost use Rattle.std.specs.Prelude.{◌≡◌, ◌+◌, map, ◌∷◌};
+ghost use Rattle.std.specs.Prelude.{◌≡◌, ◌+◌, ◌∷◌, map, length};
 ghost use Rattle.store.specs.Lists.{those};
 ghost use Rattle.book.specs.Books.{rests_on, IsBest};
-ghost use Rattle.day_rules.specs.Laws.{IsBalanced, IsLeft, IsTraded, shares_of, volume_in, value_in, other_side};
+ghost use Rattle.day_rules.specs.Laws.{IsBalanced, IsLeft, IsTraded, IsMarket, shares_of, volume_in, value_in, other_side};
 ghost use Rattle.day_rules.specs.Log.{Log, Logged, asked};
 ghost use Rattle.day_rules.specs.Questions as question;
 ghost use Rattle.day_rules.specs.Questions.{row_from_in, book_in, market_in};
 ghost use Rattle.day_rules.specs.Rules.{order_in, execution_in, row_in};
-ghost use Rattle.day_rules.specs.Words.{history};
+ghost use Rattle.day_rules.specs.Words.{history, order_by, execution_by, row_by};
 
 use crate::ledger::Ledger;
 use book::book::Book;
@@ -21,29 +21,33 @@ use store::store::Store;
 
 impl<O: Store<Order>, E: Store<Execution>, S: Store<SymbolRow>> Ledger<O, E, S> {
     // The order that rests under an Order ID.
-    #[tactic(auto, using(crate::proofs::Adding::order_left))]
+    #[tactic(auto, using(crate::proofs::Adding::order_left, crate::proofs::Adding::order_told))]
     pub fn order(&self, id: u64) -> Option<Order>
         ensures says { result ≡ order_in id self.now }
         ensures logged { (log : Log) → Logged log self.now → Logged (asked (question.order id) result ∷ log) self.now }
         ensures adds_up { (log : Log) → Logged log self.now → IsLeft (history log) id (shares_of result) }
+        ensures by_log { (log : Log) → Logged log self.now → result ≡ order_by id (history log) }
     {
         self.orders.find(id)
     }
 
     // The execution or trade with an Execution ID, broken or not.
+    #[tactic(auto, using(crate::proofs::Adding::execution_told))]
     pub fn execution(&self, id: u64) -> Option<Execution>
         ensures says { result ≡ execution_in id self.now }
         ensures logged { (log : Log) → Logged log self.now → Logged (asked (question.execution id) result ∷ log) self.now }
+        ensures by_log { (log : Log) → Logged log self.now → result ≡ execution_by id (history log) }
     {
         self.executions.find(id)
     }
 
     // What has traded of a symbol.
-    #[tactic(auto, using(crate::proofs::Adding::row_traded))]
+    #[tactic(auto, using(crate::proofs::Adding::row_traded, crate::proofs::Adding::row_told))]
     pub fn row(&self, symbol: u64) -> Option<SymbolRow>
         ensures says { result ≡ row_in symbol self.now }
         ensures logged { (log : Log) → Logged log self.now → Logged (asked (question.row symbol) result ∷ log) self.now }
         ensures adds_up { (log : Log) → Logged log self.now → IsTraded (history log) symbol (volume_in result) (value_in result) }
+        ensures by_log { (log : Log) → Logged log self.now → result ≡ row_by symbol (history log) }
     {
         self.symbols.find(symbol)
     }
@@ -68,17 +72,21 @@ impl<O: Store<Order>, E: Store<Execution>, S: Store<SymbolRow>> Ledger<O, E, S> 
     }
 
     // What has traded of all symbols together.
+    #[tactic(auto, using(crate::proofs::Adding::market_told))]
     pub fn market(&self) -> Turnover
         ensures says { result ≡ market_in self.now }
         ensures logged { (log : Log) → Logged log self.now → Logged (asked question.market result ∷ log) self.now }
+        ensures by_log { (log : Log) → Logged log self.now → IsMarket (history log) result }
     {
         market(&self.symbols)
     }
 
     // How many messages were accepted.
+    #[tactic(auto, using(crate::proofs::Adding::accepted_told))]
     pub fn accepted(&self) -> u64
         ensures says { result ≡ self.now.accepted }
         ensures logged { (log : Log) → Logged log self.now → Logged (asked question.accepted result ∷ log) self.now }
+        ensures by_log { (log : Log) → Logged log self.now → result ≡ length (history log) }
     {
         self.accepted
     }

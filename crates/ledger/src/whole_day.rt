@@ -36,7 +36,6 @@ impl<O: Store<Order>, E: Store<Execution>, S: Store<SymbolRow>> Ledger<O, E, S> 
 }
 
 // Keeps a day: opens a ledger over three stores, whatever they hold, and puts the lines to it.
-#[tactic(auto, using(day_rules::proofs::Logs::every_log))]
 pub fn keep_day<O: Store<Order>, E: Store<Execution>, S: Store<SymbolRow>>(
     stores: (O, E, S),
     day_limit: u64,

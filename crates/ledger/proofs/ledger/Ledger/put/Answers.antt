@@ -1,8 +1,7 @@
 use Rattle.std.proofs.Common.{◌∷◌}
 use Rattle.day_rules.specs.Laws.{LogLaws}
 use Rattle.day_rules.specs.Log.{Log, Logged, told}
-use Rattle.ledger.proofs.Adding.{after_line}
-use Rattle.ledger.proofs.Refusing.{refusal_keeps}
+use Rattle.ledger.proofs.Adding.{after_line, refusal_keeps}
 use Rattle.ledger.proofs.ledger.Ledger.put.Goals as goal
 
 pub returns : goal.returns
@@ -12,7 +11,7 @@ returns g c =
     record {
       says = took.says;
       leaves = took.leaves;
-      refused = rw (took.says, took.leaves) (refusal_keeps c.args.line.now c.args.self.now);
+      refused = refusal_keeps c.args.line.now c.args.self.now c.take_line.new.self c.take_line.result took.says took.leaves;
       logged = λ log h. (c.args.self.now, h, took.says, took.leaves);
       shares_balance = λ log h. (laws log h).shares_balance;
       orders_add_up = λ log h. (laws log h).orders_add_up;
