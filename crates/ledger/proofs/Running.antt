@@ -1,6 +1,6 @@
 -- Lines put one after the other, line by line.
 use Rattle.std.proofs.Common.{◌≡◌, ℕ, zero, suc, ◌+◌, ◌<◌, ◌≤◌, min, List, [], ◌∷◌, ◌++◌, map, length, take, drop, get_or, set, Result, sym, refl, ap, ◌∙◌, arith}
-use Rattle.std.proofs.lemmas.List.{take_more_set, take-append-drop, drop-map, drop-set-lt, length-map, length-drop, drop_all, append_assoc, append-nil}
+use Rattle.std.proofs.lemmas.List.{take_more_set, take-append-drop, drop-map, drop-set-lt, length-map, length-drop, append_assoc}
 use Rattle.std.proofs.Math.Seq.{drop-cons}
 use native.Mathlib.Numerals.{unary_clauses}
 use Rattle.day_rules.specs.declared.fault.LedgerFault.{LedgerFault}

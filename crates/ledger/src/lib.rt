@@ -7,6 +7,6 @@ pub mod ledger;
 mod making;
 pub mod open;
 pub mod questions;
-pub mod whole_day;
 mod rows;
 mod take;
+pub mod whole_day;

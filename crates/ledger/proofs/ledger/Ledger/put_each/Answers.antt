@@ -1,4 +1,4 @@
-use Rattle.std.proofs.Common.{◌≡◌, ◌≤◌, arith, min, List, map, length, length-take, drop, take, ◌++◌, refl, sym, ap, ◌∙◌}
+use Rattle.std.proofs.Common.{◌≡◌, ◌≤◌, arith, min, map, length, length-take, drop, take, ◌++◌, refl, ap, ◌∙◌}
 use Rattle.std.proofs.lemmas.List.{length-map}
 use Rattle.ledger.proofs.Running.{goes-on, answers-end, day-end, answers-most, day-most}
 use Rattle.ledger.proofs.ledger.Ledger.put_each.Goals as goal
