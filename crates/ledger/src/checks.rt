@@ -11,11 +11,11 @@ use records::symbol_row::SymbolRow;
 use store::store::Store;
 
 impl<O: Store<Order>, E: Store<Execution>, S: Store<SymbolRow>> Ledger<O, E, S> {
-    // Whether a row is needed for the symbol, and none fits.
+    // Whether a row is needed for the symbol, and none fits. While there is room nothing is searched for.
     pub(crate) fn lacks_row(&self, symbol: u64) -> bool
         ensures { result ≡ lacks_row symbol self.now }
     {
-        self.symbols.find(symbol).is_none() && is_full(&self.symbols)
+        is_full(&self.symbols) && self.symbols.find(symbol).is_none()
     }
 
     // Whether an order may come to rest.
