@@ -2,4 +2,5 @@
 #![tactic(auto)]
 
 pub mod buffer;
+pub mod input;
 pub mod split;

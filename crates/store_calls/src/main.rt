@@ -1,7 +1,6 @@
 // Answers calls of a store: reads them from standard input, one a line, and prints an answer to each.
 #![tactic(auto)]
 
-mod input;
 mod opening;
 mod running;
 mod serving;

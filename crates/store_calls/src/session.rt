@@ -2,10 +2,10 @@
 ghost use Rattle.std.specs.Prelude.{◌≡◌};
 ghost use Rattle.store_calls.specs.Steps.{more};
 
-use crate::input::next_line;
 use calls::call::Request;
 use calls::parse::parse;
 use calls::reply::{Numbered, Reply};
+use capture::input::next_line;
 use std::alloc::Global;
 use std::io;
 use std::io::{BufRead, Write};

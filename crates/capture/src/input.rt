@@ -1,11 +1,10 @@
 // Lines of an input, one at a time.
 ghost use Rattle.std.specs.Prelude.{◌≡◌, ◌++◌, length, take, if◌then◌else◌, Some, None, nat_eq};
 ghost use Rattle.capture.specs.Held.{held};
-ghost use Rattle.capture.specs.Splits.{before_end};
-ghost use Rattle.store_calls.specs.Steps.{used_of};
+ghost use Rattle.capture.specs.Splits.{before_end, used_of};
 
-use capture::buffer::LineBuffer;
-use capture::split::split_line;
+use crate::buffer::LineBuffer;
+use crate::split::split_line;
 use std::io;
 use std::io::BufRead;
 
