@@ -4,6 +4,8 @@ ghost use Rattle.day_rules.specs.declared.fault.LedgerFault.TheVariants.{Message
 
 use messages::fault::MessageFault;
 
+mod number;
+
 // One of a ledger's three stores, by what it holds.
 #[derive(Clone, Copy, PartialEq, Eq, Debug)]
 pub enum Kept {
