@@ -1,12 +1,11 @@
 // How a field is shown: its word, and then its value unless it is blank.
 ghost use Rattle.std.specs.Prelude.{◌≤◌};
 
-use crate::trim::trimmed;
+use crate::text::{legible, spelled};
 use fields::field::Field;
 use fields::numeral::{ID, Number};
 use fields::padded::{LONG_SYMBOL, PARTICIPANT, Text};
 use std::fmt;
-use std::str::from_utf8;
 
 pub(crate) fn show_number<W: fmt::Write>(
     f: &mut fmt::Formatter<W>,
@@ -46,9 +45,7 @@ fn show_field<W: fmt::Write, F: Field<Value = u64>, const SIZE: usize>(
 ) -> fmt::Result
     requires { SIZE ≤ 12 }
 {
-    let mut text = [b' '; SIZE];
-    field.put(&mut text, 0, value);
-    show_text(f, word, &text)
+    show_text(f, word, &spelled::<F, SIZE>(field, value))
 }
 
 // A space is a blank letter.
@@ -62,9 +59,8 @@ pub(crate) fn show_letter<W: fmt::Write, L: Into<u8>>(
 
 // Whole, since a character at a time takes far longer.
 fn show_text<W: fmt::Write>(f: &mut fmt::Formatter<W>, word: &str, text: &[u8]) -> fmt::Result {
-    match from_utf8(trimmed(text)) {
-        Ok("") => write!(f, " ({word})"),
-        Ok(text) => write!(f, " ({word} {text})"),
-        Err(_) => Err(fmt::Error),
+    match legible(text)? {
+        "" => write!(f, " ({word})"),
+        text => write!(f, " ({word} {text})"),
     }
 }

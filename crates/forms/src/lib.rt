@@ -4,4 +4,5 @@
 mod field;
 pub mod message;
 pub mod refusal;
+pub mod text;
 mod trim;

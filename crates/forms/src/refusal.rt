@@ -1,4 +1,7 @@
 // How a refusal is shown: its number, and then what it says of the line.
+ghost use Rattle.std.specs.Prelude.{Some};
+ghost use Rattle.forms.specs.Texts.{fault_text};
+
 use layout::fault::FieldFault;
 use messages::fault::MessageFault;
 use std::fmt;
@@ -7,6 +10,8 @@ use std::fmt;
 pub struct Refusal<'a>(pub &'a MessageFault);
 
 impl fmt::Display for Refusal<'_> {
+    ghost output = { λ r. Some (fault_text r.0.now) };
+
     fn fmt<W: fmt::Write>(&self, f: &mut fmt::Formatter<W>) -> fmt::Result {
         let number = self.0.number();
         match self.0 {

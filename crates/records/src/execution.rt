@@ -17,6 +17,17 @@ pub struct Execution {
     pub broken: bool,
 }
 
+impl Execution {
+    // Nothing said of an execution: what new memory for executions holds until the store over it is emptied.
+    pub const BLANK: Execution = Execution {
+        id: 0,
+        symbol: 0,
+        price: 0,
+        shares: 0,
+        broken: false,
+    };
+}
+
 // Kept by Execution ID. An impl of its own, since all that it says is which field that is.
 impl Record for Execution {
     ghost key = { λ e. e.id % 2 ^ 64 };

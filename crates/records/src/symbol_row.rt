@@ -18,6 +18,14 @@ pub struct SymbolRow {
 }
 
 impl SymbolRow {
+    // Nothing said of a symbol: what new memory for rows holds until the store over it is emptied.
+    pub const BLANK: SymbolRow = SymbolRow {
+        symbol: 0,
+        volume: 0,
+        value_high: 0,
+        value_low: 0,
+    };
+
     // What the shares traded for.
     pub fn value(&self) -> Value
         ensures { Parts result (stopped (self.now.value_high * 10 ^ 16 + self.now.value_low)) }

@@ -1,0 +1,4 @@
+// How a day's answers, records and totals are shown: bracketed forms, as those of messages.
+#![tactic(auto)]
+
+pub mod answer;
