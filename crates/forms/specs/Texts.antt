@@ -1,8 +1,28 @@
--- How a refusal is shown.
-use Rattle.std.specs.Prelude.{ℕ, List, ◌++◌, codes, decimal, encode_utf8}
+-- How fields and refusals are shown.
+use Rattle.std.specs.Prelude.{ℕ, cond, List, [], ◌∷◌, ◌++◌, replicate, codes, decimal, encode_utf8, ◌==◌}
+use Rattle.layout.specs.Slots.{spell, over}
 use Rattle.layout.specs.declared.fault.FieldFault.TheVariants.{Byte, Range}
+use Rattle.messages.specs.Layouts.{identifier, long_symbol}
 use Rattle.messages.specs.declared.fault.MessageFault.{MessageFault}
 use Rattle.messages.specs.declared.fault.MessageFault.TheVariants.{Cut, Unknown, Length, Field, Buffer}
+
+-- a byte before a text, which a space before none is not
+abbrev pub before_text : ℕ → List ℕ → List ℕ
+before_text x [] = cond (x == 32) [] (x ∷ [])
+before_text x (y ∷ ys) = x ∷ (y ∷ ys)
+
+-- a text without the spaces at its end
+unfoldable pub without_spaces : List ℕ → List ℕ
+without_spaces [] = []
+without_spaces (x ∷ xs) = before_text x (without_spaces xs)
+
+-- an ID's twelve digits
+abbrev pub id_text : ℕ → List ℕ
+id_text n = without_spaces (over 0 (spell identifier n) (replicate 12 32))
+
+-- a symbol's letters
+abbrev pub symbol_text : ℕ → List ℕ
+symbol_text n = without_spaces (over 0 (spell long_symbol n) (replicate 8 32))
 
 -- a number alone
 abbrev pub refused : ℕ → List ℕ

@@ -1,5 +1,7 @@
 // The text of a field alone, without its word: the digits of an ID, the letters of a symbol.
-ghost use Rattle.std.specs.Prelude.{◌≤◌};
+ghost use Rattle.std.specs.Prelude.{◌≡◌, ◌≤◌, replicate, Some, IfOk};
+ghost use Rattle.layout.specs.Slots.{spell, over};
+ghost use Rattle.forms.specs.Texts.{without_spaces, id_text, symbol_text};
 
 use crate::trim::trimmed;
 use fields::field::Field;
@@ -13,6 +15,8 @@ use std::str::from_utf8;
 pub struct IdText(pub u64);
 
 impl fmt::Display for IdText {
+    ghost output = { λ t. Some (id_text t.0) };
+
     fn fmt<W: fmt::Write>(&self, f: &mut fmt::Formatter<W>) -> fmt::Result {
         f.write_str(legible(&spelled::<Number, 12>(ID, self.0))?)
     }
@@ -23,6 +27,8 @@ impl fmt::Display for IdText {
 pub struct SymbolText(pub u64);
 
 impl fmt::Display for SymbolText {
+    ghost output = { λ t. Some (symbol_text t.0) };
+
     fn fmt<W: fmt::Write>(&self, f: &mut fmt::Formatter<W>) -> fmt::Result {
         f.write_str(legible(&spelled::<Text, 8>(LONG_SYMBOL, self.0))?)
     }
@@ -31,6 +37,7 @@ impl fmt::Display for SymbolText {
 // The bytes of a field of so many, as a line would have it.
 pub(crate) fn spelled<F: Field<Value = u64>, const SIZE: usize>(field: F, value: u64) -> [u8; SIZE]
     requires { SIZE ≤ 12 }
+    ensures { result ≡ over 0 (spell (F.Field.slot field) (F.Field.number field value)) (replicate SIZE 32) }
 {
     let mut text = [b' '; SIZE];
     field.put(&mut text, 0, value);
@@ -38,6 +45,8 @@ pub(crate) fn spelled<F: Field<Value = u64>, const SIZE: usize>(field: F, value:
 }
 
 // The text of a field's bytes, without the spaces at their end.
-pub(crate) fn legible(bytes: &[u8]) -> Result<&str, fmt::Error> {
+pub(crate) fn legible(bytes: &[u8]) -> Result<&str, fmt::Error>
+    ensures { IfOk result (λ text. text.now ≡ without_spaces bytes.now) }
+{
     from_utf8(trimmed(bytes)).or(Err(fmt::Error))
 }
