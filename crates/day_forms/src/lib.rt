@@ -2,3 +2,6 @@
 #![tactic(auto)]
 
 pub mod answer;
+pub mod numbered;
+pub mod record;
+pub mod total;
