@@ -2,5 +2,6 @@
 #![tactic(auto)]
 
 pub mod buffer;
+pub mod count;
 pub mod input;
 pub mod split;

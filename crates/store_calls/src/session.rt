@@ -1,6 +1,6 @@
 // What is kept from line to line: where calls come from, where answers go, and how many were answered.
 ghost use Rattle.std.specs.Prelude.{◌≡◌};
-ghost use Rattle.store_calls.specs.Steps.{more};
+ghost use Rattle.capture.specs.Counts.{more};
 
 use calls::call::Request;
 use calls::parse::parse;

@@ -1,4 +1,4 @@
--- How far a step goes over the calls.
+-- Counting lines.
 use Rattle.std.specs.Prelude.{ℕ, ◌+◌, ◌-◌, ◌^◌, min}
 
 -- one more, up to the most that a count holds
