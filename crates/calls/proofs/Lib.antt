@@ -1,3 +1,0 @@
-mod Cutting
-mod Decimals
-mod Lone

@@ -1,6 +1,4 @@
-pub mod Numbers
 pub mod Replies
 pub mod Requests
 pub mod Texts
 pub mod Verbs
-pub mod Words

@@ -8,20 +8,13 @@ use Rattle.calls.specs.declared.call.Request.{Request}
 use Rattle.calls.specs.declared.call.Request.TheVariants.{Open, Ask}
 use Rattle.calls.specs.declared.verb.Verb.{Verb}
 use Rattle.calls.specs.declared.verb.Verb.TheVariants as verb
-use Rattle.calls.specs.Numbers.{number_of}
+use Rattle.words.specs.Numbers.{number_of, one_of}
 use Rattle.calls.specs.Verbs.{verb_meant, kind_of}
-use Rattle.calls.specs.Words.{words}
+use Rattle.words.specs.Words.{words, no_more}
 
 -- no word
 abbrev pub bare_of : Call → List (List ℕ) → Option Call
-bare_of call [] = Some call
-bare_of call (w ∷ ws) = None
-
--- one number
-abbrev pub one_of : List (List ℕ) → Option ℕ
-one_of [] = None
-one_of (w ∷ []) = number_of w
-one_of (w ∷ (v ∷ ws)) = None
+bare_of call ws = cond (no_more ws) (Some call) None
 
 abbrev pub keyed : (ℕ → Call) → Option ℕ → Option Request
 keyed call None = None

@@ -4,8 +4,6 @@
 pub mod answer;
 pub mod call;
 pub mod fronted;
-mod number;
 pub mod parse;
 pub mod reply;
 mod verb;
-mod words;

@@ -1,12 +1,12 @@
 // What a line asks for.
 ghost use Rattle.std.specs.Prelude.{◌≡◌};
-ghost use Rattle.calls.specs.Requests.{request_of, opening_of, shaped_of, one_of, two_of, bare_of};
-ghost use Rattle.calls.specs.Words.{words, words_after};
+ghost use Rattle.calls.specs.Requests.{request_of, opening_of, shaped_of, two_of, bare_of};
+ghost use Rattle.words.specs.Words.{words, words_after};
 
 use crate::call::{Call, Opening, Request};
-use crate::number::{number, whole_number};
 use crate::verb::{Verb, kind_of, verb_of};
-use crate::words::{after_space, cut};
+use words::cut::{after_space, cut, ends};
+use words::number::{number, one_number};
 
 // No line opens a store of more records.
 const MOST: u64 = 4096;
@@ -40,13 +40,7 @@ pub fn parse(line: &[u8]) -> Option<Request>
 fn alone(call: Call, rest: &[u8]) -> Option<Call>
     ensures { result ≡ bare_of call (words_after rest.now) }
 {
-    after_space(rest).is_none().then_some(call)
-}
-
-fn one_number(rest: &[u8]) -> Option<u64>
-    ensures { result ≡ one_of (words_after rest.now) }
-{
-    whole_number(after_space(rest)?)
+    ends(rest).then_some(call)
 }
 
 fn two_numbers(rest: &[u8]) -> Option<(u64, u64)>

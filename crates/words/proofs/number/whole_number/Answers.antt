@@ -1,6 +1,6 @@
 use Rattle.std.proofs.Common.{◌∙◌}
-use Rattle.calls.proofs.Lone.{number-alone}
-use Rattle.calls.proofs.number.whole_number.Goals as goal
+use Rattle.words.proofs.Lone.{number-alone}
+use Rattle.words.proofs.number.whole_number.Goals as goal
 
 pub returns : goal.returns
 returns c = c.number.ensures ∙ number-alone c.args.line.now

@@ -1,7 +1,7 @@
 use Rattle.std.proofs.Common.{◌≡◌, eqb, ne_eqb, refl}
 use Rattle.std.proofs.lemmas.List.Sums.{position_or_len_is}
-use Rattle.calls.proofs.Cutting.{space_at, words-cut}
-use Rattle.calls.proofs.words.cut.Goals as goal
+use Rattle.words.proofs.Cutting.{space_at, words-cut}
+use Rattle.words.proofs.cut.cut.Goals as goal
 
 pub returns : goal.returns
 returns c =

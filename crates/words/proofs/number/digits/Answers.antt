@@ -1,6 +1,6 @@
 use Rattle.std.proofs.Common.{sym, ◌∙◌}
-use Rattle.calls.proofs.Decimals.{reads-not}
-use Rattle.calls.proofs.number.digits.Goals as goal
+use Rattle.words.proofs.Decimals.{reads-not}
+use Rattle.words.proofs.number.digits.Goals as goal
 
 pub returns-in_err-value : goal.returns-in_err-value
 returns-in_err-value c =

@@ -1,5 +1,5 @@
 -- The words of a line: what stands between its spaces.
-use Rattle.std.specs.Prelude.{ℕ, cond, List, [], ◌∷◌, ◌==◌}
+use Rattle.std.specs.Prelude.{ℕ, Bool, true, false, cond, List, [], ◌∷◌, Some, None, Option, ◌==◌}
 
 -- a byte before the first word
 abbrev pub onto : ℕ → List (List ℕ) → List (List ℕ)
@@ -15,3 +15,13 @@ words (x ∷ xs) = cond (x == 32) ([] ∷ words xs) (onto x (words xs))
 abbrev pub words_after : List ℕ → List (List ℕ)
 words_after [] = []
 words_after (x ∷ xs) = cond (x == 32) (words xs) []
+
+-- there is no word
+abbrev pub no_more : List (List ℕ) → Bool
+no_more [] = true
+no_more (w ∷ ws) = false
+
+-- the word that stands alone
+abbrev pub lone : List (List ℕ) → Option (List ℕ)
+lone [] = None
+lone (w ∷ ws) = cond (no_more ws) (Some w) None

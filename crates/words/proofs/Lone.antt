@@ -1,31 +1,8 @@
 -- Lines of one word.
-use Rattle.std.proofs.Common.{◌≡◌, ℕ, Bool, true, false, cond, ◌&&◌, eqb, List, [], ◌∷◌, Some, None, Option, MatchOption, is_some, not, sym, refl, ap, ◌∙◌, subst, ⊎_elim}
-use Rattle.std.specs.Bool.{then_some}
+use Rattle.std.proofs.Common.{◌≡◌, ℕ, Bool, true, false, cond, ◌&&◌, eqb, List, [], ◌∷◌, None, sym, refl, ap, subst, ⊎_elim}
 use Rattle.std.proofs.lemmas.Bool.{cases_Bool, eqb-true}
-use Rattle.calls.specs.declared.call.Call.{Call}
-use Rattle.calls.specs.Numbers.{is_digit, are_digits, spelt, narrow, number_of}
-use Rattle.calls.specs.Requests.{bare_of, one_of}
-use Rattle.calls.specs.Words.{onto, words}
-
--- a byte before the first word leaves some word
-onto-some : (call : Call) (x : ℕ) (ws : List (List ℕ)) → bare_of call (onto x ws) ≡ None
-onto-some call x [] = refl
-onto-some call x (w ∷ ws) = refl
-
--- a line has a word
-pub words-some : (call : Call) (xs : List ℕ) → bare_of call (words xs) ≡ None
-unfolding words
-words-some call [] = refl
-words-some call (x ∷ xs) =
-    ⊎_elim (λ e. rw e) (λ e. rw e (onto-some call x (words xs))) (cases_Bool (eqb x 32))
-
--- what is made of a call where something stands after its verb or nothing
-pub alone-is : {X : Type 0} (call : Call) (v : X → List ℕ) (ws : List (List ℕ)) (o : Option X) (none : Bool) → is_some o ≡ not none
-    → MatchOption o (ws ≡ []) (λ x. ws ≡ words (v x)) → then_some none call ≡ bare_of call ws
-alone-is call v ws None true e h = rw h refl
-alone-is call v ws None false e h = cc
-alone-is call v ws (Some x) true e h = cc
-alone-is call v ws (Some x) false e h = sym (ap (bare_of call) h ∙ words-some call (v x))
+use Rattle.words.specs.Numbers.{is_digit, are_digits, spelt, narrow, number_of, one_of}
+use Rattle.words.specs.Words.{onto, words}
 
 -- where there is one word it is the line, and where there are more the line is not all digits
 abbrev Lone : List ℕ → List (List ℕ) → Type 0

@@ -1,5 +1,5 @@
 -- Numbers of decimal digits, below 2^64.
-use Rattle.std.specs.Prelude.{ℕ, ◌+◌, ◌-◌, ◌*◌, ◌^◌, Bool, true, cond, ◌&&◌, List, [], ◌∷◌, Some, None, Option, nat_le, nat_lt}
+use Rattle.std.specs.Prelude.{ℕ, ◌+◌, ◌-◌, ◌*◌, ◌^◌, Bool, true, cond, ◌&&◌, List, [], ◌∷◌, Some, None, Option, nat_le, nat_lt, option_map}
 
 abbrev pub is_digit : ℕ → Bool
 is_digit b = nat_le 48 b && nat_le b 57
@@ -29,3 +29,14 @@ number_of (b ∷ bs) = decimal 0 (b ∷ bs)
 -- one more digit behind a number
 abbrev pub pushed_on : ℕ → ℕ → Option ℕ
 pushed_on v b = cond (is_digit b) (narrow (v * 10 + (b - 48))) None
+
+-- one number
+abbrev pub one_of : List (List ℕ) → Option ℕ
+one_of [] = None
+one_of (w ∷ []) = number_of w
+one_of (w ∷ (v ∷ ws)) = None
+
+-- the first of the words as a number, and the words after it
+abbrev pub first_of : List (List ℕ) → Option (ℕ × List (List ℕ))
+first_of [] = None
+first_of (w ∷ ws) = option_map (λ n. (n, ws)) (number_of w)

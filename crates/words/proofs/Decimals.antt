@@ -1,7 +1,7 @@
 -- Reading a number digit by digit.
 use Rattle.std.proofs.Common.{◌≡◌, ℕ, suc, ◌+◌, ◌-◌, ◌*◌, ◌<◌, ◌≤◌, List, [], ◌∷◌, length, get_or, drop, None, ap, ◌∙◌, arith, drop-cons}
 use Rattle.std.proofs.lemmas.Bool.Decides.{nat_tests}
-use Rattle.calls.specs.Numbers.{spelt, decimal, pushed_on}
+use Rattle.words.specs.Numbers.{spelt, decimal, pushed_on}
 
 -- digits behind a number never make it less
 grows : (v : ℕ) (bs : List ℕ) → v ≤ spelt v bs

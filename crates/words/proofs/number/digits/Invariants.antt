@@ -1,6 +1,6 @@
 use Rattle.std.proofs.Common.{◌≡◌, ◌^◌, ◌<◌, drop}
-use Rattle.calls.specs.Numbers.{decimal}
-use Rattle.calls.proofs.number.digits.Given as goal
+use Rattle.words.specs.Numbers.{decimal}
+use Rattle.words.proofs.number.digits.Given as goal
 
 -- what is still to be read, behind the number so far, spells the whole number
 abbrev pub invariant-loop-byte : goal.invariant-loop-byte

@@ -1,0 +1,3 @@
+mod Cutting
+mod Decimals
+mod Lone
