@@ -1,0 +1,4 @@
+pub mod Openings
+pub mod Questions
+pub mod Replies
+pub mod Texts

@@ -1,0 +1,90 @@
+-- What a line asks: a question mark and a verb, and after it as many words as the verb takes.
+use Rattle.std.specs.Prelude.{ℕ, ◌-◌, cond, List, [], ◌∷◌, ◌++◌, length, replicate, Some, None, Ok, Err, codes, Option, Result, ◌==◌, nat_le, option_map}
+use Rattle.std.specs.Str.{bytes_eq}
+use Rattle.layout.specs.Slots.{Slot, width, scan_slot, in_range}
+use Rattle.messages.specs.Layouts.{identifier, long_symbol}
+use Rattle.messages.specs.declared.code.Side.{Side}
+use Rattle.messages.specs.declared.code.Side.TheVariants.{Buy, Sell}
+use Rattle.words.specs.Words.{words, no_more, lone}
+use Rattle.ledger_calls.specs.declared.question.Question.{Question}
+use Rattle.ledger_calls.specs.declared.question.Question.TheVariants as question
+use Rattle.ledger_calls.specs.declared.verb.Verb.{Verb}
+use Rattle.ledger_calls.specs.declared.verb.Verb.TheVariants.{Order, Execution, Row, From, Book, Market, Accepted}
+
+abbrev pub verb_meant : List ℕ → Option Verb
+verb_meant w =
+    cond (bytes_eq w (codes "order")) (Some Order)
+    (cond (bytes_eq w (codes "execution")) (Some Execution)
+    (cond (bytes_eq w (codes "row")) (Some Row)
+    (cond (bytes_eq w (codes "from")) (Some From)
+    (cond (bytes_eq w (codes "book")) (Some Book)
+    (cond (bytes_eq w (codes "market")) (Some Market)
+    (cond (bytes_eq w (codes "accepted")) (Some Accepted) None))))))
+
+-- a field's value, where its range allows it
+abbrev pub ranged : Slot → Result ℕ ℕ → Option ℕ
+ranged s (Ok v) = cond (in_range s v) (Some v) None
+ranged s (Err place) = None
+
+-- what the field is that these bytes are, all of them
+abbrev pub whole : Slot → List ℕ → Option ℕ
+whole s bytes = cond (length bytes == width s) (ranged s (scan_slot s bytes)) None
+
+abbrev pub id_of : List ℕ → Option ℕ
+id_of w = whole identifier w
+
+-- with spaces at its end, to eight bytes
+abbrev pub padded : List ℕ → List ℕ
+padded w = w ++ replicate (8 - length w) 32
+
+abbrev pub symbol_of : List ℕ → Option ℕ
+symbol_of w = cond (nat_le (length w) 8) (whole long_symbol (padded w)) None
+
+abbrev pub side_of : List ℕ → Option Side
+side_of w = cond (bytes_eq w (codes "B")) (Some Buy) (cond (bytes_eq w (codes "S")) (Some Sell) None)
+
+-- no word
+abbrev pub bare_of : Question → List (List ℕ) → Option Question
+bare_of q ws = cond (no_more ws) (Some q) None
+
+-- what a word is read as
+abbrev pub read_by : {X : Type 0} → (List ℕ → Option X) → Option (List ℕ) → Option X
+read_by reads None = None
+read_by reads (Some w) = reads w
+
+-- one word
+abbrev pub key_of : {X : Type 0} → (List ℕ → Option X) → List (List ℕ) → Option X
+key_of reads ws = read_by reads (lone ws)
+
+abbrev pub book_asked : Option ℕ → Option Side → Option Question
+book_asked None side = None
+book_asked (Some symbol) None = None
+book_asked (Some symbol) (Some side) = Some (question.Book symbol side)
+
+-- a symbol and a side
+abbrev pub book_of : List (List ℕ) → Option Question
+book_of [] = None
+book_of (w ∷ ws) = book_asked (symbol_of w) (key_of side_of ws)
+
+abbrev pub verb_asks : Option Verb → List (List ℕ) → Option Question
+verb_asks None ws = None
+verb_asks (Some Order) ws = option_map question.Order (key_of id_of ws)
+verb_asks (Some Execution) ws = option_map question.Execution (key_of id_of ws)
+verb_asks (Some Row) ws = option_map question.Row (key_of symbol_of ws)
+verb_asks (Some From) ws = option_map question.From (key_of symbol_of ws)
+verb_asks (Some Book) ws = book_of ws
+verb_asks (Some Market) ws = bare_of question.Market ws
+verb_asks (Some Accepted) ws = bare_of question.Accepted ws
+
+abbrev pub words_ask : List (List ℕ) → Option Question
+words_ask [] = None
+words_ask (w ∷ ws) = verb_asks (verb_meant w) ws
+
+-- what is asked behind a question mark
+abbrev pub question_of : List ℕ → Option Question
+question_of text = words_ask (words text)
+
+-- the text behind a question mark
+abbrev pub asked_by : List ℕ → Option (List ℕ)
+asked_by [] = None
+asked_by (x ∷ xs) = cond (x == 63) (Some xs) None

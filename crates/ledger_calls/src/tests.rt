@@ -1,0 +1,64 @@
+// What a ledger may easily get wrong, and an input whose first line opens none.
+use crate::running::run;
+use std::alloc::Global;
+use std::process::Abort;
+use std::test::Fail;
+
+// What is written for an input.
+fn answers(rt: &impl Abort, heap: Global, input: &[u8], expected: &[u8]) -> Result<(), Fail> {
+    let mut input = input;
+    let mut output = Vec::new(heap);
+    run(heap, &mut input, &mut output)?;
+    assert!(rt; output.as_slice() == expected);
+    Ok(())
+}
+
+#[test]
+fn a_break_takes_off_the_price_of_its_own_execution(rt: HostRuntime) -> Result<(), Fail> {
+    answers(
+        &rt,
+        rt.alloc(),
+        b"ledger 9 9 9 9\n34200000A0000000000A1B000500ABCD  0000102500Y\n34200010E0000000000A1000200000000000001\n34200020X0000000000A1000300\n34200020A0000000000A1B000300ABCD  0000105000Y\n34200025E0000000000A1000100000000000002\n34200030B000000000001\n?row ABCD\n",
+        b"(line 1 (opened 9 9 9 9))\n(line 2 (took 0 500))\n(line 3 (took 0 300))\n(line 4 (took 1 0))\n(line 5 (took 0 300))\n(line 6 (took 0 200))\n(line 7 (took 0 100))\n(line 8 (symbol ABCD (volume 100) (value 0 10500000)))\n",
+    )
+}
+
+#[test]
+fn an_id_that_is_executed_in_full_or_cancelled_is_added_again(rt: HostRuntime) -> Result<(), Fail> {
+    answers(
+        &rt,
+        rt.alloc(),
+        b"ledger 9 9 9 9\n34200000A0000000000A1B000500ABCD  0000102500Y\n34200010E0000000000A1000500000000000001\n34200020A0000000000A1S000300ABCD  0000105000Y\n34200030X0000000000A1000300\n34200040A0000000000A1S000100ABCD  0000106000Y\n",
+        b"(line 1 (opened 9 9 9 9))\n(line 2 (took 0 500))\n(line 3 (took 1 0))\n(line 4 (took 0 300))\n(line 5 (took 1 0))\n(line 6 (took 0 100))\n",
+    )
+}
+
+#[test]
+fn a_broken_execution_is_kept(rt: HostRuntime) -> Result<(), Fail> {
+    answers(
+        &rt,
+        rt.alloc(),
+        b"ledger 9 9 9 9\n34200000P000000000000B000100ABCD  0000102500000000000001\n34200010B000000000001\n34200020B000000000001\n34200030B000000000002\n34200040P000000000000B000100ABCD  0000102500000000000001\n",
+        b"(line 1 (opened 9 9 9 9))\n(line 2 (took 0 100))\n(line 3 (took 0 0))\n(line 4 (refused 11))\n(line 5 (refused 10))\n(line 6 (refused 9))\n",
+    )
+}
+
+#[test]
+fn a_trade_changes_no_order(rt: HostRuntime) -> Result<(), Fail> {
+    answers(
+        &rt,
+        rt.alloc(),
+        b"ledger 9 9 9 9\n34200000A0000000000A1B000500ABCD  0000102500Y\n34200010P0000000000A1B000100ABCD  0000102000000000000001\n?order 0000000000A1\n",
+        b"(line 1 (opened 9 9 9 9))\n(line 2 (took 0 500))\n(line 3 (took 0 100))\n(line 4 (order 0000000000A1 (side B) (shares 500) (symbol ABCD) (price 102500) (display Y)))\n",
+    )
+}
+
+#[test]
+fn nothing_is_answered_without_a_ledger(rt: HostRuntime) -> Result<(), Fail> {
+    answers(
+        &rt,
+        rt.alloc(),
+        b"ledger 65 1 1 9\n?market\n",
+        b"(line 1 (no ledger))\n",
+    )
+}

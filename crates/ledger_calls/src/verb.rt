@@ -1,0 +1,30 @@
+// The words that a question begins with.
+ghost use Rattle.std.specs.Prelude.{◌≡◌};
+ghost use Rattle.ledger_calls.specs.Questions.{verb_meant};
+
+#[derive(Clone, Copy)]
+pub(crate) enum Verb {
+    Order,
+    Execution,
+    Row,
+    From,
+    Book,
+    Market,
+    Accepted,
+}
+
+// No `TryFrom`: the parser goes by options, and a word that means nothing has no more to say.
+pub(crate) fn verb_of(word: &[u8]) -> Option<Verb>
+    ensures { result ≡ verb_meant word.now }
+{
+    match word {
+        b"order" => Some(Verb::Order),
+        b"execution" => Some(Verb::Execution),
+        b"row" => Some(Verb::Row),
+        b"from" => Some(Verb::From),
+        b"book" => Some(Verb::Book),
+        b"market" => Some(Verb::Market),
+        b"accepted" => Some(Verb::Accepted),
+        _ => None,
+    }
+}
