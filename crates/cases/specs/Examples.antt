@@ -1,10 +1,14 @@
--- Worked examples: of reading a line, and of values.
+-- Worked examples: of reading a line, of values, and of keeping a day.
 use Rattle.std.specs.Prelude.{◌≡◌, ℕ, ◌+◌, ◌*◌, Bool, true, false, ◌&&◌, List, [], ◌∷◌, Ok, Err, codes, Result, ◌==◌, slice_index}
 use Rattle.messages.specs.declared.fault.MessageFault.{MessageFault}
 use Rattle.messages.specs.Types.{MessageType}
 use Rattle.messages.specs.Faults.{number_of, carried_of}
 use Rattle.messages.specs.Lines.{line_read}
 use Rattle.records.specs.Values.{stopped, high_of, low_of}
+use Rattle.store.specs.Models.{Model}
+use Rattle.day_rules.specs.Days.{Day, greatest_limit}
+use Rattle.day_rules.specs.Rules.{answer, next}
+use Rattle.day_forms.specs.Texts.{answer_text}
 
 pub data Answer : Type 0 where
   -- it is a message, whose field of that place has that value; the time is at place 0, the letter at 1
@@ -17,6 +21,8 @@ pub data Example : Type 0 where
   reads : (line : List ℕ) (answer : Answer) → Example
   -- a value of that worth has these two parts
   parted : (worth high low : ℕ) → Example
+  -- a day with an order store of that limit answers each line with what is shown as that text
+  keeps : (limit : ℕ) (lines : List (List ℕ × List ℕ)) → Example
 
 abbrev pub same_list : List ℕ → List ℕ → Bool
 same_list [] [] = true
@@ -30,9 +36,23 @@ meets (Ok p) (refused number carried) = false
 meets (Err e) (says place value) = false
 meets (Err e) (refused number carried) = number_of e == number && same_list (carried_of e) carried
 
+-- a store of so many records at most, of which it holds none
+abbrev pub empty : {X : Type 0} → ℕ → Model X
+empty limit = record { rows = []; limit = limit }
+
+-- a day that begins, with an order store of that limit
+abbrev pub begun : ℕ → Day
+begun limit = record { orders = empty limit; executions = empty 64; symbols = empty 16; day_limit = greatest_limit; accepted = 0 }
+
+-- each line is answered so, one after the other
+abbrev pub answers : List (List ℕ × List ℕ) → Day → Bool
+answers [] d = true
+answers (p ∷ ps) d = same_list (answer_text (answer p.0 d)) p.1 && answers ps (next p.0 d)
+
 abbrev pub stands : Example → Bool
 stands (reads line answer) = meets (line_read line) answer
 stands (parted worth high low) = high_of worth == high && low_of worth == low
+stands (keeps limit lines) = answers lines (begun limit)
 
 abbrev pub holds : List Example → Bool
 holds [] = true
@@ -69,6 +89,14 @@ examples =
     -- the greatest product of a message, and the sum of two of them
     ∷ parted most 0 9999989999000001
     ∷ parted (stopped (most + most)) 1 9999979998000002
+    -- of two orders at most the third is refused, and accepted once one of them is cancelled in full
+    ∷ keeps 2
+    ((codes "34200000A0000000000A1B000500ABCD  0000102500Y", codes "(took 0 500)")
+    ∷ (codes "34200010A0000000000A2S000300ABCD  0000102600Y", codes "(took 0 300)")
+    ∷ (codes "34200020A0000000000A3B000100EFGH  0000099000N", codes "(refused 12 (order))")
+    ∷ (codes "34200030X0000000000A1000500", codes "(took 1 0)")
+    ∷ (codes "34200020A0000000000A3B000100EFGH  0000099000N", codes "(took 0 100)")
+    ∷ [])
     ∷ []
 
 -- each of them holds

@@ -1,4 +1,4 @@
-// The worked examples of reading and of values.
+// The worked examples of reading, of values and of a day.
 ghost use Rattle.cases.specs.Examples.{ExamplesHold};
 
 // Does nothing: that it is proved says that the examples hold.
