@@ -77,7 +77,7 @@ row_text r =
 
 -- blank without a price
 abbrev pub best_field : Option ℕ → List ℕ → List ℕ
-best_field None rest = codes " (best)" ++ rest
+best_field None rest = codes " (best none)" ++ rest
 best_field (Some price) rest = field (codes "best") (decimal price) rest
 
 abbrev pub book_text : Book → List ℕ

@@ -6,7 +6,7 @@ use book::book::Book;
 use book::turnover::Turnover;
 use std::fmt;
 
-// The depth, and the best price: blank where no order rests.
+// The depth, and the best price, none where no order rests.
 #[derive(Drop)]
 pub struct BookForm<'a>(pub &'a Book);
 
@@ -22,7 +22,7 @@ impl fmt::Display for BookForm<'_> {
                 f,
                 "(book (orders {orders}) (shares {shares}) (best {price}))"
             ),
-            None => write!(f, "(book (orders {orders}) (shares {shares}) (best))"),
+            None => write!(f, "(book (orders {orders}) (shares {shares}) (best none))"),
         }
     }
 }
