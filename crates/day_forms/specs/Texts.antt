@@ -75,7 +75,7 @@ row_text r =
     ++ (symbol_text r.symbol
     ++ field (codes "volume") (decimal r.volume) (value_field (high_of (stopped (row_worth r))) (low_of (stopped (row_worth r))) (codes ")")))
 
--- blank without a price
+-- a word without a price
 abbrev pub best_field : Option ℕ → List ℕ → List ℕ
 best_field None rest = codes " (best none)" ++ rest
 best_field (Some price) rest = field (codes "best") (decimal price) rest
