@@ -4,6 +4,8 @@ use Rattle.messages.specs.declared.fault.MessageFault.{MessageFault}
 use Rattle.messages.specs.Types.{MessageType}
 use Rattle.messages.specs.Faults.{number_of, carried_of}
 use Rattle.messages.specs.Lines.{line_read}
+use Rattle.records.specs.declared.symbol_row.SymbolRow.{SymbolRow}
+use Rattle.records.specs.Keys.{row_worth}
 use Rattle.records.specs.Values.{stopped, high_of, low_of}
 use Rattle.store.specs.Models.{Model}
 use Rattle.day_rules.specs.Days.{Day, greatest_limit}
@@ -21,8 +23,8 @@ pub data Example : Type 0 where
   reads : (line : List ℕ) (answer : Answer) → Example
   -- a value of that worth has these two parts
   parted : (worth high low : ℕ) → Example
-  -- a day with an order store of that limit answers each line with what is shown as that text
-  keeps : (limit : ℕ) (lines : List (List ℕ × List ℕ)) → Example
+  -- a day with an order store of that limit answers each line with what is shown as that text, and then has these volumes and values on its rows
+  keeps : (limit : ℕ) (lines : List (List ℕ × List ℕ)) (traded : List ℕ) → Example
 
 abbrev pub same_list : List ℕ → List ℕ → Bool
 same_list [] [] = true
@@ -44,15 +46,20 @@ empty limit = record { rows = []; limit = limit }
 abbrev pub begun : ℕ → Day
 begun limit = record { orders = empty limit; executions = empty 64; symbols = empty 16; day_limit = greatest_limit; accepted = 0 }
 
+-- the volume and the value of each row
+abbrev pub turnovers : List SymbolRow → List ℕ
+turnovers [] = []
+turnovers (r ∷ rs) = r.volume ∷ row_worth r ∷ turnovers rs
+
 -- each line is answered so, one after the other
-abbrev pub answers : List (List ℕ × List ℕ) → Day → Bool
-answers [] d = true
-answers (p ∷ ps) d = same_list (answer_text (answer p.0 d)) p.1 && answers ps (next p.0 d)
+abbrev pub answers : List (List ℕ × List ℕ) → List ℕ → Day → Bool
+answers [] traded d = same_list (turnovers d.symbols.rows) traded
+answers (p ∷ ps) traded d = same_list (answer_text (answer p.0 d)) p.1 && answers ps traded (next p.0 d)
 
 abbrev pub stands : Example → Bool
 stands (reads line answer) = meets (line_read line) answer
 stands (parted worth high low) = high_of worth == high && low_of worth == low
-stands (keeps limit lines) = answers lines (begun limit)
+stands (keeps limit lines traded) = answers lines traded (begun limit)
 
 abbrev pub holds : List Example → Bool
 holds [] = true
@@ -97,6 +104,23 @@ examples =
     ∷ (codes "34200030X0000000000A1000500", codes "(took 1 0)")
     ∷ (codes "34200020A0000000000A3B000100EFGH  0000099000N", codes "(took 0 100)")
     ∷ [])
+    (0 ∷ 0 ∷ 0 ∷ 0 ∷ [])
+    -- an execution broken after its order was cancelled and added again at another price; then trades, long forms and a clear
+    ∷ keeps 64
+    ((codes "28800000sABCD    ", codes "(took 0 0)")
+    ∷ (codes "34200000A0000000000A1B000500ABCD  0000102500Y", codes "(took 0 500)")
+    ∷ (codes "34200010E0000000000A1000200000000000001", codes "(took 0 300)")
+    ∷ (codes "34200020X0000000000A1000300", codes "(took 1 0)")
+    ∷ (codes "34200020A0000000000A1B000300ABCD  0000105000Y", codes "(took 0 300)")
+    ∷ (codes "34200025E0000000000A1000100000000000002", codes "(took 0 200)")
+    ∷ (codes "34200030B000000000001", codes "(took 0 100)")
+    ∷ (codes "34200030B000000000001", codes "(refused 11)")
+    ∷ (codes "34200040P0000000000A1B000050ABCD  0000101000000000000003", codes "(took 0 150)")
+    ∷ (codes "34200040d0000000000A2S000070EFGHIJ  0000200000Y    R", codes "(took 0 70)")
+    ∷ (codes "34200050r0000000000A2B000010EFGHIJ  0000200000000000000004", codes "(took 0 10)")
+    ∷ (codes "34200060sABCD    ", codes "(took 1 200)")
+    ∷ [])
+    (150 ∷ 15550000 ∷ 10 ∷ 2000000 ∷ [])
     ∷ []
 
 -- each of them holds
