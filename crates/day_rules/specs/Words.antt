@@ -1,5 +1,5 @@
 -- What is said of a log: its accepted messages, and the orders, executions and breaks among them. These speak of lines and answers alone, and of no ledger.
-use Rattle.std.specs.Prelude.{ℕ, ◌+◌, ◌*◌, Bool, false, cond, ◌&&◌, ◌||◌, List, [], ◌∷◌, Some, None, Ok, Err, Option, Result, ◌==◌}
+use Rattle.std.specs.Prelude.{ℕ, ◌+◌, ◌-◌, ◌*◌, Bool, true, false, cond, ◌&&◌, ◌||◌, List, [], ◌∷◌, Some, None, Ok, Err, Option, Result, ◌==◌}
 use Rattle.messages.specs.declared.fault.MessageFault.{MessageFault}
 use Rattle.messages.specs.declared.message.Message.{Message}
 use Rattle.messages.specs.Telling.{line_message}
@@ -12,7 +12,6 @@ use Rattle.day_rules.specs.declared.outcome.Outcome.{Outcome}
 use Rattle.day_rules.specs.Events.{Event, clears, adds, executes, cancels, trades, breaks, event_of}
 use Rattle.day_rules.specs.Log.{Log, told, asked}
 use Rattle.day_rules.specs.Rows.{row_of}
-use Rattle.day_rules.specs.Rules.{less_shares, marked}
 
 -- an accepted message, by what its line says, and its answer
 pub record Accepted : Type 0 where
@@ -162,16 +161,20 @@ fill_with x (e ∷ es) = cond (e.id == x) (Some e) (fill_with x es)
 -- marked as broken, if it was broken any times
 abbrev pub marked_if : ℕ → Option Execution → Option Execution
 marked_if times None = None
-marked_if times (Some e) = Some (cond (times == 0) e (marked e))
+marked_if times (Some e) = Some (cond (times == 0) e (record { id = e.id; symbol = e.symbol; price = e.price; shares = e.shares; broken = true }))
 
 -- the execution or trade with the Execution ID, as it was accepted, broken if an accepted break carries the ID
 unfoldable pub execution_by : ℕ → History → Option Execution
 execution_by x h = marked_if (times_broken x h) (fill_with x (fills h))
 
+-- the order as it was added, with so many shares left
+abbrev pub with_left : ℕ → Order → Order
+with_left n o = record { id = o.id; symbol = o.symbol; price = o.price; shares = n; side = o.side; display = o.display }
+
 -- what is left of an order after a clear, or after so many shares were taken off
 abbrev pub left_of_add : Option Order → (since : History) → ℕ → Option Order
 left_of_add None since id = None
-left_of_add (Some o) since id = cond (clear_among o.symbol since || taken_off id since == o.shares) None (Some (less_shares (taken_off id since) o))
+left_of_add (Some o) since id = cond (clear_among o.symbol since || taken_off id since == o.shares) None (Some (with_left (o.shares - taken_off id since) o))
 
 -- the order that rests under the Order ID: as its last accepted add had it, less what was taken off since; none if a clear came since, or no share is left
 unfoldable pub order_by : ℕ → History → Option Order
