@@ -1,5 +1,5 @@
 -- Every log adds up, as what it stands for does.
-use Rattle.std.proofs.Common.{◌≡◌, ℕ, ◌≤◌, cond, eqb, leb, List, [], ◌∷◌, Some, None, Ok, Err, Option, Result, refl, sym, ap, ◌∙◌, ⊎_elim, arith}
+use Rattle.std.proofs.Common.{◌≡◌, ℕ, ◌≤◌, cond, true, eqb, leb, List, [], ◌∷◌, Some, None, Ok, Err, Option, Result, refl, sym, ap, ◌∙◌, ⊎_elim, arith}
 use Rattle.std.proofs.lemmas.Bool.{cases_Bool, eqb-true, leb-false}
 use Rattle.std.proofs.lemmas.Bool.Decides.{nat_tests}
 use Rattle.messages.specs.declared.fault.MessageFault.{MessageFault}
@@ -20,7 +20,7 @@ use Rattle.day_rules.specs.Log.{Log, IsOpening, Logged, told, asked}
 use Rattle.day_rules.specs.Questions.{market_in}
 use Rattle.day_rules.specs.Rows.{execution_worth, row_of, row_or_new}
 use Rattle.day_rules.specs.Rules.{less_shares, row_in, allowed, permitted, outcome, after, counted, or_refused, or_same, message_answer, message_after, answer, next}
-use Rattle.day_rules.specs.Words.{History, history, last_add, since_add, clear_among, taken_off, left_of_add, fills, counts_for, traded, times_broken, volume_of, value_of, all_traded, order_by, execution_by, row_by}
+use Rattle.day_rules.specs.Words.{History, history, last_add, since_add, clear_among, taken_off, left_of_add, fills, counts_for, traded, times_broken, volume_of, value_of, all_traded, order_by, execution_by, row_by, row_needed}
 use Rattle.day_rules.proofs.Depths.{resting}
 use Rattle.day_rules.proofs.Fits.{line-fits}
 use Rattle.day_rules.proofs.Standing.{NarrowOrder, broken_times, unless_broken, unless_marked, if_of, stored, row_stored, Stands}
@@ -144,4 +144,7 @@ every_log log d l =
       rows_as_traded = λ s. st.rows.each s ∙ rw (row_by_log (history log) d st s) refl;
       market_adds_up = market (history log) d st;
       accepted_are_counted = st.count;
+      executions_have_rows = λ x e is.
+          let needed = found-each execution_key (λ f. row_needed f.symbol (history log) ≡ true) x d.executions.rows e st.rows.needed is in
+          rw (st.rows.each e.symbol) (rw needed refl);
     }

@@ -4,9 +4,11 @@ use Rattle.messages.specs.declared.code.Side.{Side}
 use Rattle.messages.specs.declared.code.Side.TheVariants.{Buy, Sell}
 use Rattle.records.specs.declared.order.Order.{Order}
 use Rattle.records.specs.declared.symbol_row.SymbolRow.{SymbolRow}
-use Rattle.records.specs.Keys.{row_worth}
+use Rattle.records.specs.declared.execution.Execution.{Execution}
+use Rattle.records.specs.Keys.{row_worth, symbol_key}
 use Rattle.records.specs.Values.{worth}
 use Rattle.book.specs.declared.turnover.Turnover.{Turnover}
+use Rattle.store.specs.Lists.{holds}
 use Rattle.book.specs.Books.{sum}
 use Rattle.day_rules.specs.declared.fault.LedgerFault.{LedgerFault}
 use Rattle.day_rules.specs.Days.{Day}
@@ -91,6 +93,10 @@ MarketAddsUp log d = IsMarket (history log) (market_in d)
 abbrev pub AcceptedAreCounted : Log → Day → Type 0
 AcceptedAreCounted log d = d.accepted ≡ length (history log)
 
+-- each stored execution's symbol has a row, so that no break meets a missing one
+abbrev pub ExecutionsHaveRows : Day → Type 0
+ExecutionsHaveRows d = (x : ℕ) (e : Execution) → execution_in x d ≡ Some e → holds symbol_key e.symbol d.symbols.rows ≡ true
+
 -- All this holds of every log since a ledger's opening, and of the day that the ledger keeps after it.
 pub record LogLaws (log : Log) (d : Day) : Type 0 where
   pub shares_balance : SharesBalance log d
@@ -102,6 +108,7 @@ pub record LogLaws (log : Log) (d : Day) : Type 0 where
   pub rows_as_traded : RowsAsTraded log d
   pub market_adds_up : MarketAddsUp log d
   pub accepted_are_counted : AcceptedAreCounted log d
+  pub executions_have_rows : ExecutionsHaveRows d
 
 abbrev pub EveryLog : Type 0
 EveryLog = (log : Log) (d : Day) → Logged log d → LogLaws log d
