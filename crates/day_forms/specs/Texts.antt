@@ -9,8 +9,8 @@ use Rattle.records.specs.Keys.{row_worth}
 use Rattle.records.specs.Values.{stopped, high_of, low_of}
 use Rattle.book.specs.declared.book.Book.{Book}
 use Rattle.book.specs.declared.turnover.Turnover.{Turnover}
-use Rattle.day_rules.specs.declared.fault.Kept.{Kept}
-use Rattle.day_rules.specs.declared.fault.Kept.TheVariants.{Order, Execution, Symbol}
+use Rattle.day_rules.specs.declared.fault.StoreName.{StoreName}
+use Rattle.day_rules.specs.declared.fault.StoreName.TheVariants.{Order, Execution, Symbol}
 use Rattle.day_rules.specs.declared.fault.LedgerFault.{LedgerFault}
 use Rattle.day_rules.specs.declared.fault.LedgerFault.TheVariants.{Message, Resting, Absent, Excess, Repeated, Unmatched, Broken, Full, Closed}
 use Rattle.day_rules.specs.declared.outcome.Outcome.{Outcome}
@@ -19,7 +19,7 @@ use Rattle.day_rules.specs.declared.outcome.Outcome.{Outcome}
 abbrev pub outcome_text : Outcome → List ℕ
 outcome_text o = codes "(took " ++ (decimal o.orders ++ (codes " " ++ (decimal o.shares ++ codes ")")))
 
-abbrev pub store_word : Kept → List ℕ
+abbrev pub store_word : StoreName → List ℕ
 store_word Order = codes "order"
 store_word Execution = codes "execution"
 store_word Symbol = codes "symbol"

@@ -2,7 +2,7 @@
 ghost use Rattle.std.specs.Prelude.{◌≡◌, Some};
 ghost use Rattle.day_forms.specs.Texts.{store_word, outcome_text, refusal_text, answer_text};
 
-use day_rules::fault::{Kept, LedgerFault};
+use day_rules::fault::{StoreName, LedgerFault};
 use day_rules::outcome::Outcome;
 use forms::refusal::Refusal;
 use std::fmt;
@@ -30,8 +30,8 @@ impl fmt::Display for Refused<'_> {
         let number = self.0.number();
         match self.0 {
             LedgerFault::Message(fault) => write!(f, "{}", Refusal(fault)),
-            LedgerFault::Full(kept) => {
-                let word = store_word(*kept);
+            LedgerFault::Full(name) => {
+                let word = store_word(*name);
                 write!(f, "(refused {number} ({word}))")
             }
             _ => write!(f, "(refused {number})"),
@@ -40,13 +40,13 @@ impl fmt::Display for Refused<'_> {
 }
 
 // The store that is at its limit.
-fn store_word(kept: Kept) -> &'static str
-    ensures { result.now ≡ store_word kept }
+fn store_word(name: StoreName) -> &'static str
+    ensures { result.now ≡ store_word name }
 {
-    match kept {
-        Kept::Order => "order",
-        Kept::Execution => "execution",
-        Kept::Symbol => "symbol",
+    match name {
+        StoreName::Order => "order",
+        StoreName::Execution => "execution",
+        StoreName::Symbol => "symbol",
     }
 }
 

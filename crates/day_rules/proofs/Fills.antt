@@ -13,7 +13,7 @@ use Rattle.book.specs.Books.{sum}
 use Rattle.day_rules.specs.declared.outcome.Outcome.{Outcome}
 use Rattle.day_rules.specs.Events.{Event, breaks}
 use Rattle.day_rules.specs.Rules.{marked}
-use Rattle.day_rules.specs.Words.{History, fills, then_fill, breaks_of, times_broken, fill_with, marked_if, execution_by}
+use Rattle.day_rules.specs.Words.{History, fills, then_fill, breaks_of, times_broken, fill_with, marked_if, logged_execution}
 use Rattle.day_rules.proofs.Changed.{placing, exchanging, by-key}
 use Rattle.day_rules.proofs.Standing.{NarrowFill, broken_times, unless_broken, unless_marked, Told, FillsStand, said, own_key}
 use Rattle.day_rules.proofs.Sums.{sum-same, sum-placed, each-all}
@@ -65,7 +65,7 @@ module _ (h : History) (es : List Execution) (st : FillsStand h es) (answered : 
 
   -- a message that says nothing of an ID
   still_told : (x : ℕ) (ev : Event) → breaks_of x ev ≡ 0 → fill_with x (then_fill ev h (fills h)) ≡ fill_with x (fills h) → (found : Option Execution) → Told h x found → Told (said ev answered ∷ h) x found
-  unfolding execution_by
+  unfolding logged_execution
   still_told x ev u same found t = record { times = times_same x ev u ∙ t.times; is = t.is ∙ rw (times_same x ev u, same) refl }
 
   same_fills : (w : Execution → ℕ) (ev : Event) → Unbreaking ev → (fs : List Execution) → sum (unless_broken w (said ev answered ∷ h)) fs ≡ sum (unless_broken w h) fs
@@ -85,7 +85,7 @@ module _ (h : History) (es : List Execution) (st : FillsStand h es) (answered : 
   -- an execution or a trade is stored
   pub fill-stands : (ev : Event) → Unbreaking ev → (e : Execution) → then_fill ev h (fills h) ≡ e ∷ fills h → NarrowFill e → e.broken ≡ false → holds execution_key e.id es ≡ false
       → FillsStand (said ev answered ∷ h) (placed execution_key e es)
-  unfolding execution_by
+  unfolding logged_execution
   fill-stands ev u e fill fits unbroken free =
       let none : lookup execution_key e.id es ≡ None = lookup_absent execution_key e.id es (absent-unheld execution_key e.id es free) in
       let never : times_broken e.id (said ev answered ∷ h) ≡ 0 = times_same e.id ev (u e.id) ∙ (st.each e.id).times ∙ ap broken_times none in
@@ -116,7 +116,7 @@ module _ (h : History) (es : List Execution) (st : FillsStand h es) (answered : 
     once_more w f = grind (arith, nat_tests)
 
     its_mark : Told (said (breaks x) answered ∷ h) x (Some (marked e))
-    unfolding execution_by
+    unfolding logged_execution
     its_mark =
         let t : Told h x (Some e) = subst (Told h x) found (st.each x) in
         let never : times_broken x h ≡ 0 = t.times ∙ rw unbroken refl in

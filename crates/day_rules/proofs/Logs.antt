@@ -16,11 +16,11 @@ use Rattle.day_rules.specs.declared.fault.LedgerFault.{LedgerFault}
 use Rattle.day_rules.specs.Days.{Day}
 use Rattle.day_rules.specs.Events.{event_of}
 use Rattle.day_rules.specs.Laws.{IsLeftOf, IsTraded, IsMarket, shares_of, volume_in, value_in, EveryLog, IsBalanced, IsLeft}
-use Rattle.day_rules.specs.Log.{Log, IsOpening, Logged, told, asked}
+use Rattle.day_rules.specs.Log.{Log, IsOpening, Logged, line_put, question_put}
 use Rattle.day_rules.specs.Questions.{market_in}
 use Rattle.day_rules.specs.Rows.{execution_worth, row_of, row_or_new}
 use Rattle.day_rules.specs.Rules.{less_shares, row_in, allowed, permitted, outcome, after, counted, or_refused, or_same, message_answer, message_after, answer, next}
-use Rattle.day_rules.specs.Words.{History, history, last_add, since_add, clear_among, taken_off, left_of_add, fills, counts_for, traded, times_broken, volume_of, value_of, all_traded, order_by, execution_by, row_by, row_needed}
+use Rattle.day_rules.specs.Words.{History, history, last_add, since_add, clear_among, taken_off, left_of_add, fills, counts_for, traded, times_broken, volume_of, value_of, all_traded, logged_order, logged_execution, logged_row, row_needed}
 use Rattle.day_rules.proofs.Depths.{resting}
 use Rattle.day_rules.proofs.Fits.{line-fits}
 use Rattle.day_rules.proofs.Standing.{NarrowOrder, broken_times, unless_broken, unless_marked, if_of, stored, row_stored, Stands}
@@ -92,7 +92,7 @@ module _ (h : History) (d : Day) (st : Stands h d) where
 -- What is logged, a day stands for.
 
 opened : (d : Day) → IsOpening d → Stands [] d
-unfolding order_by execution_by
+unfolding logged_order logged_execution
 opened d o =
     let none = o.accepted in
     let limit = o.day_limit in
@@ -107,27 +107,27 @@ opened d o =
 
 module _ (line : List ℕ) (log : Log) (d : Day) (st : Stands (history log) d) where
   by_event : (m : Message) → line_message line ≡ Ok m → (p : Result (Unit {0}) LedgerFault) → permitted (event_of m) d ≡ p
-      → Stands (history (told line (or_refused p (outcome (event_of m) d)) ∷ log)) (or_same p (counted (after (event_of m) d)) d)
+      → Stands (history (line_put line (or_refused p (outcome (event_of m) d)) ∷ log)) (or_same p (counted (after (event_of m) d)) d)
   by_event m is (Err f) permits = st
   by_event m is (Ok u) permits =
       let ok = passed (leb d.day_limit d.accepted) _ (allowed (event_of m) d) permits in
       rw is (step (history log) d st (leb-false d.day_limit d.accepted ok.0) (event_of m) (line-fits line m is) ok.1)
 
-  by_line : (r : Result Message MessageFault) → line_message line ≡ r → Stands (history (told line (message_answer r d) ∷ log)) (message_after r d)
+  by_line : (r : Result Message MessageFault) → line_message line ≡ r → Stands (history (line_put line (message_answer r d) ∷ log)) (message_after r d)
   by_line (Ok m) is = by_event m is (permitted (event_of m) d) refl
   by_line (Err f) is = st
 
-  line_stands : Stands (history (told line (answer line d) ∷ log)) (next line d)
+  line_stands : Stands (history (line_put line (answer line d) ∷ log)) (next line d)
   unfolding answer next
   line_stands = by_line (line_message line) refl
 
 pub logged_stands : (log : Log) (d : Day) → Logged log d → Stands (history log) d
 logged_stands [] d l = opened d l
-logged_stands (told line answered ∷ log) d l = rw (l.2, l.3) (line_stands line log l.0 (logged_stands log l.0 l.1))
-logged_stands (asked q replied ∷ log) d l = logged_stands log d l.0
+logged_stands (line_put line answered ∷ log) d l = rw (l.2, l.3) (line_stands line log l.0 (logged_stands log l.0 l.1))
+logged_stands (question_put q replied ∷ log) d l = logged_stands log d l.0
 
 pub every_log : EveryLog
-unfolding IsBalanced IsLeft order_by row_by
+unfolding IsBalanced IsLeft logged_order logged_row
 every_log log d l =
     let st = logged_stands log d l in
     let os = st.orders in

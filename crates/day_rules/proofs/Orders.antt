@@ -17,7 +17,7 @@ use Rattle.day_rules.specs.declared.outcome.Outcome.{Outcome}
 use Rattle.day_rules.specs.Events.{Event, clears, adds, executes, cancels, trades, breaks}
 use Rattle.day_rules.specs.Laws.{shares_of}
 use Rattle.day_rules.specs.Rules.{less_shares}
-use Rattle.day_rules.specs.Words.{History, Accepted, or_added, last_add, is_add, since_add, is_clear, clear_among, off_order, brought, off_symbol, if_symbol, reported, taken_off, left_of_add, order_by}
+use Rattle.day_rules.specs.Words.{History, Accepted, or_added, last_add, is_add, since_add, is_clear, clear_among, off_order, brought, off_symbol, if_symbol, reported, taken_off, left_of_add, logged_order}
 use Rattle.day_rules.proofs.Changed.{Changed, placing, exchanging, taking, by-key}
 use Rattle.day_rules.proofs.Standing.{NarrowOrder, shares_if, OrdersStand, said, own_key}
 use Rattle.day_rules.proofs.Sums.{sum-placed, sum-replaced, sum-without, length-without, length-others}
@@ -92,8 +92,8 @@ module _ (h : History) (a : Accepted) (id : ℕ) (none : is_add id a.event ≡ f
   since_last None since e = refl
   since_last (Some o) since e = one_by_one (λ s. is_clear s a.event) (clear_among o.symbol since) (taken_off id since) (off_order id a.event) o e
 
-  left_later : Enough (off_order id a.event) (order_by id h) → order_by id (a ∷ h) ≡ later (order_by id h)
-  unfolding order_by
+  left_later : Enough (off_order id a.event) (logged_order id h) → logged_order id (a ∷ h) ≡ later (logged_order id h)
+  unfolding logged_order
   left_later e = let last = unadded id a.event (last_add id h) none in rw (last, none) (since_last (last_add id h) (since_add id h) e)
 
 -- an order that rests: as its last accepted add had it, less what was taken off since
@@ -106,8 +106,8 @@ is_left : (gone : Bool) (p o : Order) → cond gone None (Some p) ≡ Some o →
 is_left true p o e = cc
 is_left false p o e = cc
 
-pub rests-by : (h : History) (id : ℕ) (o : Order) → order_by id h ≡ Some o → Resting h id o
-unfolding order_by
+pub rests-by : (h : History) (id : ℕ) (o : Order) → logged_order id h ≡ Some o → Resting h id o
+unfolding logged_order
 rests-by h id o e = by_last (last_add id h) refl e
   where
     by_last : (last : Option Order) → last_add id h ≡ last → left_of_add last (since_add id h) id ≡ Some o → Resting h id o
@@ -151,13 +151,13 @@ module _ (h : History) (os : List Order) (st : OrdersStand h os) (answered : Out
 
     -- what is left of what was found
     left_now : (id : ℕ) (x : Option Order) → lookup order_key id os ≡ x → is_add id e ≡ false → off_order id e ≤ shares_of x
-        → order_by id (said e answered ∷ h) ≡ left_after (λ s. is_clear s e) (off_order id e) x
+        → logged_order id (said e answered ∷ h) ≡ left_after (λ s. is_clear s e) (off_order id e) x
     left_now id x is none l =
         let same = sym (st.each id) ∙ is in
-        subst (λ y. Enough (off_order id e) y → order_by id (said e answered ∷ h) ≡ left_after (λ s. is_clear s e) (off_order id e) y) same
+        subst (λ y. Enough (off_order id e) y → logged_order id (said e answered ∷ h) ≡ left_after (λ s. is_clear s e) (off_order id e) y) same
         (left_later h (said e answered) id none) (enough id x is l)
 
-    unmoved : (id : ℕ) → Skips e id → ((s : ℕ) → is_clear s e ≡ false) → lookup order_key id os ≡ order_by id (said e answered ∷ h)
+    unmoved : (id : ℕ) → Skips e id → ((s : ℕ) → is_clear s e ≡ false) → lookup order_key id os ≡ logged_order id (said e answered ∷ h)
     unmoved id skips stays =
         let x = lookup order_key id os in
         let none = skips.1 in
@@ -165,15 +165,15 @@ module _ (h : History) (os : List Order) (st : OrdersStand h os) (answered : Out
         sym (left_now id x refl skips.0 l ∙ none_taken (λ s. is_clear s e) (off_order id e) x stays none (enough id x refl l))
 
     -- a change of what is found under one ID
-    all-but : (i : ℕ) (x : Option Order) (now : List Order) → Changed order_key i x os now → ((s : ℕ) → is_clear s e ≡ false) → x ≡ order_by i (said e answered ∷ h)
-        → ((j : ℕ) → (i ≡ j → ⊥) → Skips e j) → (id : ℕ) → lookup order_key id now ≡ order_by id (said e answered ∷ h)
-    all-but i x now changed stays here skips = by-key order_key i os (λ j y. y ≡ order_by j (said e answered ∷ h)) x now changed here (λ j n. unmoved j (skips j n) stays)
+    all-but : (i : ℕ) (x : Option Order) (now : List Order) → Changed order_key i x os now → ((s : ℕ) → is_clear s e ≡ false) → x ≡ logged_order i (said e answered ∷ h)
+        → ((j : ℕ) → (i ≡ j → ⊥) → Skips e j) → (id : ℕ) → lookup order_key id now ≡ logged_order id (said e answered ∷ h)
+    all-but i x now changed stays here skips = by-key order_key i os (λ j y. y ≡ logged_order j (said e answered ∷ h)) x now changed here (λ j n. unmoved j (skips j n) stays)
 
   -- an order comes to rest
   pub add-stands : (o : Order) → NarrowOrder o → holds order_key o.id os ≡ false → OrdersStand (said (adds o) answered ∷ h) (placed order_key o os)
-  unfolding order_by
+  unfolding logged_order
   add-stands o fits free =
-      let rests : order_by o.id (said (adds o) answered ∷ h) ≡ Some o = rw (eq-eqb o.id o.id refl) (untouched o fits.least) in
+      let rests : logged_order o.id (said (adds o) answered ∷ h) ≡ Some o = rw (eq-eqb o.id o.id refl) (untouched o fits.least) in
       let changed = placing order_key o.id os st.rising o (own_key o.id fits.id) free in
       record {
         rising = changed.rising;
@@ -202,7 +202,7 @@ module _ (h : History) (os : List Order) (st : OrdersStand h os) (answered : Out
     here : off_order i e ≡ n
     here = let off = takes.off i in rw (eq-eqb i i refl) at off
 
-    its_left : order_by i (said e answered ∷ h) ≡ left_if false n o
+    its_left : logged_order i (said e answered ∷ h) ≡ left_if false n o
     its_left = left_now e i (Some o) found (takes.adds_none i) (rw here enough) ∙ rw (here, takes.clears_none o.symbol) refl
 
     taken : (x : Option Order) (now : List Order) → Changed order_key i x os now → x ≡ left_if false n o → Each NarrowOrder now → length now ≤ length os

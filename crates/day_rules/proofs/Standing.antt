@@ -10,7 +10,7 @@ use Rattle.day_rules.specs.declared.outcome.Outcome.{Outcome}
 use Rattle.day_rules.specs.Days.{Day, greatest_limit}
 use Rattle.day_rules.specs.Events.{Event, clears, adds, executes, cancels, trades, breaks}
 use Rattle.day_rules.specs.Rows.{execution_worth, row_of}
-use Rattle.day_rules.specs.Words.{History, Accepted, shares_added, shares_taken, shares_cleared, order_by, fills, times_broken, execution_by, row_needed}
+use Rattle.day_rules.specs.Words.{History, Accepted, shares_added, shares_taken, shares_cleared, logged_order, fills, times_broken, logged_execution, row_needed}
 
 -- as a line can give it: an ID and a symbol of 64 bits, ten digits of a price, six of shares, and at least one share
 pub record NarrowOrder (o : Order) : Type 0 where
@@ -53,7 +53,7 @@ pub record OrdersStand (h : History) (os : List Order) : Type 0 where
   pub rising : Rising order_key os
   pub narrow : Each NarrowOrder os
   pub count : length os ≤ length h
-  pub each : (id : ℕ) → lookup order_key id os ≡ order_by id h
+  pub each : (id : ℕ) → lookup order_key id os ≡ logged_order id h
   pub balance : (s : ℕ) → shares_added s h ≡ sum (shares_if s) os + shares_taken s h + shares_cleared s h
 
 -- Executions.
@@ -66,7 +66,7 @@ broken_times (Some e) = cond e.broken 1 0
 -- what is found under an Execution ID is what the log says, broken as often
 pub record Told (h : History) (x : ℕ) (found : Option Execution) : Type 0 where
   pub times : times_broken x h ≡ broken_times found
-  pub is : found ≡ execution_by x h
+  pub is : found ≡ logged_execution x h
 
 -- of an accepted execution or trade, by the log
 abbrev pub unless_broken : (Execution → ℕ) → History → Execution → ℕ

@@ -12,5 +12,5 @@ refusal_number Excess = 8
 refusal_number Repeated = 9
 refusal_number Unmatched = 10
 refusal_number Broken = 11
-refusal_number (Full kept) = 12
+refusal_number (Full name) = 12
 refusal_number Closed = 13

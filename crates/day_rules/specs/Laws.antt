@@ -15,7 +15,7 @@ use Rattle.day_rules.specs.Days.{Day}
 use Rattle.day_rules.specs.Log.{Log, Logged}
 use Rattle.day_rules.specs.Questions.{book_in, market_in}
 use Rattle.day_rules.specs.Rules.{order_in, execution_in, row_in, answer, next}
-use Rattle.day_rules.specs.Words.{History, history, last_add, since_add, clear_among, taken_off, shares_added, shares_taken, shares_cleared, times_broken, volume_of, value_of, order_by, execution_by, row_by, all_traded}
+use Rattle.day_rules.specs.Words.{History, history, last_add, since_add, clear_among, taken_off, shares_added, shares_taken, shares_cleared, times_broken, volume_of, value_of, logged_order, logged_execution, logged_row, all_traded}
 
 -- What is asked after the log. A missing order or row counts as 0.
 
@@ -75,13 +75,13 @@ NoneBrokenTwice log = (x : ℕ) → times_broken x (history log) ≤ 1
 -- Each question's reply is what the log says.
 
 abbrev pub OrdersAsAdded : Log → Day → Type 0
-OrdersAsAdded log d = (id : ℕ) → order_in id d ≡ order_by id (history log)
+OrdersAsAdded log d = (id : ℕ) → order_in id d ≡ logged_order id (history log)
 
 abbrev pub ExecutionsAsAccepted : Log → Day → Type 0
-ExecutionsAsAccepted log d = (x : ℕ) → execution_in x d ≡ execution_by x (history log)
+ExecutionsAsAccepted log d = (x : ℕ) → execution_in x d ≡ logged_execution x (history log)
 
 abbrev pub RowsAsTraded : Log → Day → Type 0
-RowsAsTraded log d = (symbol : ℕ) → row_in symbol d ≡ row_by symbol (history log)
+RowsAsTraded log d = (symbol : ℕ) → row_in symbol d ≡ logged_row symbol (history log)
 
 -- all symbols' volume and value together are the sums over all accepted, unbroken executions and trades
 unfoldable pub IsMarket : History → Turnover → Type 0

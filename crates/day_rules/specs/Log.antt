@@ -8,9 +8,9 @@ use Rattle.day_rules.specs.Rules.{answer, next}
 
 pub data Entry : Type 0 where
   -- a line, any bytes, and its answer
-  told : (line : List ℕ) (answered : Result Outcome LedgerFault) → Entry
+  line_put : (line : List ℕ) (answered : Result Outcome LedgerFault) → Entry
   -- a question, and its reply
-  asked : (q : Question) (replied : ReplyTo q) → Entry
+  question_put : (q : Question) (replied : ReplyTo q) → Entry
 
 abbrev pub Log : Type 0
 Log = List Entry
@@ -26,5 +26,5 @@ pub record IsOpening (d : Day) : Type 0 where
 -- The ledger that keeps the day d was opened, and this log is all that was put to it since: each line got its answer and left the day that follows, each question got its reply.
 abbrev pub Logged : Log → Day → Type 0
 Logged [] d = IsOpening d
-Logged (told line answered ∷ log) d = (before : Day) × Logged log before × (answered ≡ answer line before) × (d ≡ next line before)
-Logged (asked q replied ∷ log) d = Logged log d × (replied ≡ reply q d)
+Logged (line_put line answered ∷ log) d = (before : Day) × Logged log before × (answered ≡ answer line before) × (d ≡ next line before)
+Logged (question_put q replied ∷ log) d = Logged log d × (replied ≡ reply q d)

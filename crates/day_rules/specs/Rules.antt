@@ -12,7 +12,7 @@ use Rattle.store.specs.Models.{Model, inserted, replacing, removing, sweeping}
 use Rattle.book.specs.Books.{is_of, depth_of}
 use Rattle.day_rules.specs.declared.fault.LedgerFault.{LedgerFault}
 use Rattle.day_rules.specs.declared.fault.LedgerFault.TheVariants.{Message as of_message, Resting, Absent, Excess, Repeated, Unmatched, Broken, Full, Closed}
-use Rattle.day_rules.specs.declared.fault.Kept.TheVariants.{Order as order_store, Execution as execution_store, Symbol as symbol_store}
+use Rattle.day_rules.specs.declared.fault.StoreName.TheVariants.{Order as order_store, Execution as execution_store, Symbol as symbol_store}
 use Rattle.day_rules.specs.declared.outcome.Outcome.{Outcome}
 use Rattle.day_rules.specs.Days.{Day, with_orders, with_executions, with_symbols}
 use Rattle.day_rules.specs.Events.{Event, clears, adds, executes, cancels, trades, breaks, event_of}
@@ -127,8 +127,8 @@ abbrev pub row_taken : Execution → Option SymbolRow → Model SymbolRow → Mo
 row_taken e None m = m
 row_taken e (Some r) m = replacing symbol_key (without_execution e r) m
 
-abbrev pub taken_back : Execution → Day → Day
-taken_back e d = with_symbols (row_taken e (row_in e.symbol d) d.symbols) (with_executions (replacing execution_key (marked e) d.executions) d)
+abbrev pub unfilled : Execution → Day → Day
+unfilled e d = with_symbols (row_taken e (row_in e.symbol d) d.symbols) (with_executions (replacing execution_key (marked e) d.executions) d)
 
 abbrev pub executed : (shares execution : ℕ) → Option Order → Day → Day
 executed n x None d = d
@@ -140,7 +140,7 @@ cancelled n (Some o) d = reduced n o d
 
 abbrev pub broken : Option Execution → Day → Day
 broken None d = d
-broken (Some e) d = taken_back e d
+broken (Some e) d = unfilled e d
 
 abbrev pub after : Event → Day → Day
 after (clears symbol) d = with_orders (sweeping (is_of symbol) d.orders) d

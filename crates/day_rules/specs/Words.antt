@@ -10,7 +10,7 @@ use Rattle.store.specs.Lists.{those}
 use Rattle.book.specs.Books.{sum}
 use Rattle.day_rules.specs.declared.outcome.Outcome.{Outcome}
 use Rattle.day_rules.specs.Events.{Event, clears, adds, executes, cancels, trades, breaks, event_of}
-use Rattle.day_rules.specs.Log.{Log, told, asked}
+use Rattle.day_rules.specs.Log.{Log, line_put, question_put}
 use Rattle.day_rules.specs.Rows.{row_of}
 
 -- an accepted message, by what its line says, and its answer
@@ -29,9 +29,9 @@ then_accepted (Err e) a h = h
 -- the accepted messages of a log: those answered without a refusal
 abbrev pub history : Log → History
 history [] = []
-history (told line (Ok a) ∷ log) = then_accepted (line_message line) a (history log)
-history (told line (Err e) ∷ log) = history log
-history (asked q r ∷ log) = history log
+history (line_put line (Ok a) ∷ log) = then_accepted (line_message line) a (history log)
+history (line_put line (Err e) ∷ log) = history log
+history (question_put q r ∷ log) = history log
 
 -- Orders.
 
@@ -164,8 +164,8 @@ marked_if times None = None
 marked_if times (Some e) = Some (cond (times == 0) e (record { id = e.id; symbol = e.symbol; price = e.price; shares = e.shares; broken = true }))
 
 -- the execution or trade with the Execution ID, as it was accepted, broken if an accepted break carries the ID
-unfoldable pub execution_by : ℕ → History → Option Execution
-execution_by x h = marked_if (times_broken x h) (fill_with x (fills h))
+unfoldable pub logged_execution : ℕ → History → Option Execution
+logged_execution x h = marked_if (times_broken x h) (fill_with x (fills h))
 
 -- the order as it was added, with so many shares left
 abbrev pub with_left : ℕ → Order → Order
@@ -177,8 +177,8 @@ left_of_add None since id = None
 left_of_add (Some o) since id = cond (clear_among o.symbol since || taken_off id since == o.shares) None (Some (with_left (o.shares - taken_off id since) o))
 
 -- the order that rests under the Order ID: as its last accepted add had it, less what was taken off since; none if a clear came since, or no share is left
-unfoldable pub order_by : ℕ → History → Option Order
-order_by id h = left_of_add (last_add id h) (since_add id h) id
+unfoldable pub logged_order : ℕ → History → Option Order
+logged_order id h = left_of_add (last_add id h) (since_add id h) id
 
 -- a message that needs a row for the symbol; an execution's symbol has one from its order's add
 abbrev pub needs_row : ℕ → Event → Bool
@@ -192,8 +192,8 @@ row_needed symbol [] = false
 row_needed symbol (a ∷ h) = needs_row symbol a.event || row_needed symbol h
 
 -- the row of the symbol, once some accepted message needed one: with the volume and the value of its accepted, unbroken executions and trades
-unfoldable pub row_by : ℕ → History → Option SymbolRow
-row_by symbol h = cond (row_needed symbol h) (Some (row_of symbol (volume_of symbol h) (value_of symbol h))) None
+unfoldable pub logged_row : ℕ → History → Option SymbolRow
+logged_row symbol h = cond (row_needed symbol h) (Some (row_of symbol (volume_of symbol h) (value_of symbol h))) None
 
 -- the accepted, unbroken executions and trades of all symbols
 abbrev pub all_traded : History → List Execution

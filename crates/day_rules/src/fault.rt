@@ -8,7 +8,7 @@ mod number;
 
 // One of a ledger's three stores, by what it holds.
 #[derive(Clone, Copy, PartialEq, Eq, Debug)]
-pub enum Kept {
+pub enum StoreName {
     Order,
     Execution,
     Symbol,
@@ -31,7 +31,7 @@ pub enum LedgerFault {
     // A break names a broken one.
     Broken,
     // A record is needed, and its store is at its limit.
-    Full(Kept),
+    Full(StoreName),
     // The day limit is reached.
     Closed,
 }

@@ -11,15 +11,15 @@ use Rattle.day_rules.specs.declared.fault.LedgerFault.{LedgerFault}
 use Rattle.day_rules.specs.declared.outcome.Outcome.{Outcome}
 use Rattle.day_rules.specs.Days.{Day}
 use Rattle.day_rules.specs.Laws.{IsBalanced, IsLeft, IsTraded, IsMarket, shares_of, volume_in, value_in, other_side, LogLaws}
-use Rattle.day_rules.specs.Log.{Log, Logged, told}
+use Rattle.day_rules.specs.Log.{Log, Logged, line_put}
 use Rattle.day_rules.specs.Questions.{book_in, market_in}
 use Rattle.day_rules.specs.Rules.{answer, next, order_in, execution_in, row_in}
-use Rattle.day_rules.specs.Words.{history, order_by, execution_by, row_by}
+use Rattle.day_rules.specs.Words.{history, logged_order, logged_execution, logged_row}
 use Rattle.day_rules.proofs.Logs.{every_log}
 use Rattle.day_rules.proofs.Refusing.{refused-unchanged}
 
-pub after_line : (line : List ℕ) (log : Log) (d e : Day) (r : Result Outcome LedgerFault) → Logged log d → r ≡ answer line d → e ≡ next line d → LogLaws (told line r ∷ log) e
-after_line line log d e r h says leaves = every_log (told line r ∷ log) e (d, h, says, leaves)
+pub after_line : (line : List ℕ) (log : Log) (d e : Day) (r : Result Outcome LedgerFault) → Logged log d → r ≡ answer line d → e ≡ next line d → LogLaws (line_put line r ∷ log) e
+after_line line log d e r h says leaves = every_log (line_put line r ∷ log) e (d, h, says, leaves)
 
 pub order_left : (log : Log) (d : Day) (id : ℕ) (r : Option Order) → Logged log d → r ≡ order_in id d → IsLeft (history log) id (shares_of r)
 order_left log d id r h e = rw e ((every_log log d h).orders_add_up id)
@@ -32,13 +32,13 @@ unfolding IsBalanced
 book_balances log d symbol Buy r h e = rw e ((every_log log d h).shares_balance symbol)
 book_balances log d symbol Sell r h e = rw e (let b = (every_log log d h).shares_balance symbol in omega arith)
 
-pub order_told : (log : Log) (d : Day) (id : ℕ) (r : Option Order) → Logged log d → r ≡ order_in id d → r ≡ order_by id (history log)
+pub order_told : (log : Log) (d : Day) (id : ℕ) (r : Option Order) → Logged log d → r ≡ order_in id d → r ≡ logged_order id (history log)
 order_told log d id r h e = e ∙ (every_log log d h).orders_as_added id
 
-pub execution_told : (log : Log) (d : Day) (id : ℕ) (r : Option Execution) → Logged log d → r ≡ execution_in id d → r ≡ execution_by id (history log)
+pub execution_told : (log : Log) (d : Day) (id : ℕ) (r : Option Execution) → Logged log d → r ≡ execution_in id d → r ≡ logged_execution id (history log)
 execution_told log d id r h e = e ∙ (every_log log d h).executions_as_accepted id
 
-pub row_told : (log : Log) (d : Day) (symbol : ℕ) (r : Option SymbolRow) → Logged log d → r ≡ row_in symbol d → r ≡ row_by symbol (history log)
+pub row_told : (log : Log) (d : Day) (symbol : ℕ) (r : Option SymbolRow) → Logged log d → r ≡ row_in symbol d → r ≡ logged_row symbol (history log)
 row_told log d symbol r h e = e ∙ (every_log log d h).rows_as_traded symbol
 
 pub market_told : (log : Log) (d : Day) (r : Turnover) → Logged log d → r ≡ market_in d → IsMarket (history log) r

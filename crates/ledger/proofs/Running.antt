@@ -6,7 +6,7 @@ use native.Mathlib.Numerals.{unary_clauses}
 use Rattle.day_rules.specs.declared.fault.LedgerFault.{LedgerFault}
 use Rattle.day_rules.specs.declared.outcome.Outcome.{Outcome}
 use Rattle.day_rules.specs.Days.{Day}
-use Rattle.day_rules.specs.Log.{Log, Logged, told}
+use Rattle.day_rules.specs.Log.{Log, Logged, line_put}
 use Rattle.day_rules.specs.Rules.{answer, next}
 use Rattle.ledger.specs.Runs.{Answers, answers_on, day_on, log_on}
 
@@ -49,7 +49,7 @@ next-of xs n d l = simp unary_clauses (drop-cons xs n d l)
 logged-on : (log : Log) (d : Day) (lines : List (List ℕ)) (places : Answers) → Logged log d → Logged (log_on log lines (answers_on d lines places)) (day_on d lines places)
 logged-on log d [] places h = h
 logged-on log d (x ∷ lines) [] h = h
-logged-on log d (x ∷ lines) (r ∷ places) h = logged-on (told x (answer x d) ∷ log) (next x d) lines places (d, h, refl, refl)
+logged-on log d (x ∷ lines) (r ∷ places) h = logged-on (line_put x (answer x d) ∷ log) (next x d) lines places (d, h, refl, refl)
 
 pub logged_over : (log : Log) (d e : Day) (lines : List (List ℕ)) (places is : Answers) → is ≡ answers_on d lines places → e ≡ day_on d lines places → Logged log d → Logged (log_on log lines is) e
 logged_over log d e lines places is answers leaves h = rw (answers, leaves) (logged-on log d lines places h)

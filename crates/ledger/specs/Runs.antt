@@ -3,7 +3,7 @@ use Rattle.std.specs.Prelude.{ℕ, List, [], ◌∷◌, Result}
 use Rattle.day_rules.specs.declared.fault.LedgerFault.{LedgerFault}
 use Rattle.day_rules.specs.declared.outcome.Outcome.{Outcome}
 use Rattle.day_rules.specs.Days.{Day}
-use Rattle.day_rules.specs.Log.{Log, told}
+use Rattle.day_rules.specs.Log.{Log, line_put}
 use Rattle.day_rules.specs.Rules.{answer, next}
 
 abbrev pub Answers : Type 0
@@ -25,7 +25,7 @@ day_on d (line ∷ lines) (place ∷ places) = day_on (next line d) lines places
 abbrev pub log_on : Log → List (List ℕ) → Answers → Log
 log_on log [] answers = log
 log_on log (line ∷ lines) [] = log
-log_on log (line ∷ lines) (a ∷ answers) = log_on (told line a ∷ log) lines answers
+log_on log (line ∷ lines) (a ∷ answers) = log_on (line_put line a ∷ log) lines answers
 
 -- the log of a ledger to which only these lines were put since its opening
 abbrev pub log_of : List (List ℕ) → Answers → Log

@@ -4,7 +4,7 @@ ghost use Rattle.day_rules.specs.Rules.{order_in, execution_in, lacks_row, may_r
 
 use crate::ledger::Ledger;
 use crate::rows::is_full;
-use day_rules::fault::{Kept, LedgerFault};
+use day_rules::fault::{StoreName, LedgerFault};
 use records::execution::Execution;
 use records::order::Order;
 use records::symbol_row::SymbolRow;
@@ -26,10 +26,10 @@ impl<O: Store<Order>, E: Store<Execution>, S: Store<SymbolRow>> Ledger<O, E, S> 
             return Err(LedgerFault::Resting);
         }
         if is_full(&self.orders) {
-            return Err(LedgerFault::Full(Kept::Order));
+            return Err(LedgerFault::Full(StoreName::Order));
         }
         if self.lacks_row(order.symbol) {
-            return Err(LedgerFault::Full(Kept::Symbol));
+            return Err(LedgerFault::Full(StoreName::Symbol));
         }
         Ok(())
     }
@@ -55,10 +55,10 @@ impl<O: Store<Order>, E: Store<Execution>, S: Store<SymbolRow>> Ledger<O, E, S> 
             return Err(LedgerFault::Repeated);
         }
         if is_full(&self.executions) {
-            return Err(LedgerFault::Full(Kept::Execution));
+            return Err(LedgerFault::Full(StoreName::Execution));
         }
         if self.lacks_row(symbol) {
-            return Err(LedgerFault::Full(Kept::Symbol));
+            return Err(LedgerFault::Full(StoreName::Symbol));
         }
         Ok(())
     }

@@ -3,11 +3,11 @@ ghost use Rattle.std.specs.Prelude.{◌≡◌, ◌+◌, ◌∷◌, map, length};
 ghost use Rattle.store.specs.Lists.{those};
 ghost use Rattle.book.specs.Books.{rests_on, IsBest};
 ghost use Rattle.day_rules.specs.Laws.{IsBalanced, IsLeft, IsTraded, IsMarket, shares_of, volume_in, value_in, other_side};
-ghost use Rattle.day_rules.specs.Log.{Log, Logged, asked};
+ghost use Rattle.day_rules.specs.Log.{Log, Logged, question_put};
 ghost use Rattle.day_rules.specs.Questions as question;
 ghost use Rattle.day_rules.specs.Questions.{row_from_in, book_in, market_in};
 ghost use Rattle.day_rules.specs.Rules.{order_in, execution_in, row_in};
-ghost use Rattle.day_rules.specs.Words.{history, order_by, execution_by, row_by};
+ghost use Rattle.day_rules.specs.Words.{history, logged_order, logged_execution, logged_row};
 
 use crate::ledger::Ledger;
 use book::book::Book;
@@ -24,9 +24,9 @@ impl<O: Store<Order>, E: Store<Execution>, S: Store<SymbolRow>> Ledger<O, E, S> 
     #[tactic(auto, using(crate::proofs::Adding::order_left, crate::proofs::Adding::order_told))]
     pub fn order(&self, id: u64) -> Option<Order>
         ensures says { result ≡ order_in id self.now }
-        ensures logged { (log : Log) → Logged log self.now → Logged (asked (question.order id) result ∷ log) self.now }
+        ensures logged { (log : Log) → Logged log self.now → Logged (question_put (question.order id) result ∷ log) self.now }
         ensures adds_up { (log : Log) → Logged log self.now → IsLeft (history log) id (shares_of result) }
-        ensures by_log { (log : Log) → Logged log self.now → result ≡ order_by id (history log) }
+        ensures by_log { (log : Log) → Logged log self.now → result ≡ logged_order id (history log) }
     {
         self.orders.find(id)
     }
@@ -35,8 +35,8 @@ impl<O: Store<Order>, E: Store<Execution>, S: Store<SymbolRow>> Ledger<O, E, S> 
     #[tactic(auto, using(crate::proofs::Adding::execution_told))]
     pub fn execution(&self, id: u64) -> Option<Execution>
         ensures says { result ≡ execution_in id self.now }
-        ensures logged { (log : Log) → Logged log self.now → Logged (asked (question.execution id) result ∷ log) self.now }
-        ensures by_log { (log : Log) → Logged log self.now → result ≡ execution_by id (history log) }
+        ensures logged { (log : Log) → Logged log self.now → Logged (question_put (question.execution id) result ∷ log) self.now }
+        ensures by_log { (log : Log) → Logged log self.now → result ≡ logged_execution id (history log) }
     {
         self.executions.find(id)
     }
@@ -45,9 +45,9 @@ impl<O: Store<Order>, E: Store<Execution>, S: Store<SymbolRow>> Ledger<O, E, S> 
     #[tactic(auto, using(crate::proofs::Adding::row_traded, crate::proofs::Adding::row_told))]
     pub fn row(&self, symbol: u64) -> Option<SymbolRow>
         ensures says { result ≡ row_in symbol self.now }
-        ensures logged { (log : Log) → Logged log self.now → Logged (asked (question.row symbol) result ∷ log) self.now }
+        ensures logged { (log : Log) → Logged log self.now → Logged (question_put (question.row symbol) result ∷ log) self.now }
         ensures adds_up { (log : Log) → Logged log self.now → IsTraded (history log) symbol (volume_in result) (value_in result) }
-        ensures by_log { (log : Log) → Logged log self.now → result ≡ row_by symbol (history log) }
+        ensures by_log { (log : Log) → Logged log self.now → result ≡ logged_row symbol (history log) }
     {
         self.symbols.find(symbol)
     }
@@ -55,7 +55,7 @@ impl<O: Store<Order>, E: Store<Execution>, S: Store<SymbolRow>> Ledger<O, E, S> 
     // The first row from a symbol's number on.
     pub fn row_from(&self, symbol: u64) -> Option<SymbolRow>
         ensures says { result ≡ row_from_in symbol self.now }
-        ensures logged { (log : Log) → Logged log self.now → Logged (asked (question.row_from symbol) result ∷ log) self.now }
+        ensures logged { (log : Log) → Logged log self.now → Logged (question_put (question.row_from symbol) result ∷ log) self.now }
     {
         self.symbols.from(symbol)
     }
@@ -65,7 +65,7 @@ impl<O: Store<Order>, E: Store<Execution>, S: Store<SymbolRow>> Ledger<O, E, S> 
     pub fn book(&self, symbol: u64, side: Side) -> Book
         ensures says { result ≡ book_in symbol side self.now }
         ensures best { IsBest side (map (λ o. o.price) (those (rests_on symbol side) self.now.orders.rows)) result.best }
-        ensures logged { (log : Log) → Logged log self.now → Logged (asked (question.book symbol side) result ∷ log) self.now }
+        ensures logged { (log : Log) → Logged log self.now → Logged (question_put (question.book symbol side) result ∷ log) self.now }
         ensures balance { (log : Log) → Logged log self.now → IsBalanced (history log) symbol (result.depth.shares.number + (book_in symbol (other_side side) self.now).depth.shares.number) }
     {
         book(&self.orders, symbol, side)
@@ -75,7 +75,7 @@ impl<O: Store<Order>, E: Store<Execution>, S: Store<SymbolRow>> Ledger<O, E, S> 
     #[tactic(auto, using(crate::proofs::Adding::market_told))]
     pub fn market(&self) -> Turnover
         ensures says { result ≡ market_in self.now }
-        ensures logged { (log : Log) → Logged log self.now → Logged (asked question.market result ∷ log) self.now }
+        ensures logged { (log : Log) → Logged log self.now → Logged (question_put question.market result ∷ log) self.now }
         ensures by_log { (log : Log) → Logged log self.now → IsMarket (history log) result }
     {
         market(&self.symbols)
@@ -85,7 +85,7 @@ impl<O: Store<Order>, E: Store<Execution>, S: Store<SymbolRow>> Ledger<O, E, S> 
     #[tactic(auto, using(crate::proofs::Adding::accepted_told))]
     pub fn accepted(&self) -> u64
         ensures says { result ≡ self.now.accepted }
-        ensures logged { (log : Log) → Logged log self.now → Logged (asked question.accepted result ∷ log) self.now }
+        ensures logged { (log : Log) → Logged log self.now → Logged (question_put question.accepted result ∷ log) self.now }
         ensures by_log { (log : Log) → Logged log self.now → result ≡ length (history log) }
     {
         self.accepted

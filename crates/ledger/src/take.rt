@@ -2,7 +2,7 @@
 ghost use Rattle.std.specs.Prelude.{◌≡◌, List, ◌∷◌, OnErr};
 ghost use Rattle.day_rules.specs.Events.{event_of};
 ghost use Rattle.day_rules.specs.Laws.{SharesBalance, OrdersAddUp, TurnoverAddsUp, NoneBrokenTwice};
-ghost use Rattle.day_rules.specs.Log.{Log, Logged, told};
+ghost use Rattle.day_rules.specs.Log.{Log, Logged, line_put};
 ghost use Rattle.day_rules.specs.Rules.{event_answer, event_after, answer, next};
 ghost use Rattle.ledger.specs.Steps.{answered, followed};
 
@@ -24,11 +24,11 @@ impl<O: Store<Order>, E: Store<Execution>, S: Store<SymbolRow>> Ledger<O, E, S> 
         ensures leaves { self.new ≡ next line.now self.old }
         ensures refused { OnErr result (self.new ≡ self.old) }
         // Whatever log led to the day before, with this line it leads to the day after.
-        ensures logged { (log : Log) → Logged log self.old → Logged (told line.now result ∷ log) self.new }
-        ensures shares_balance { (log : Log) → Logged log self.old → SharesBalance (told line.now result ∷ log) self.new }
-        ensures orders_add_up { (log : Log) → Logged log self.old → OrdersAddUp (told line.now result ∷ log) self.new }
-        ensures turnover_adds_up { (log : Log) → Logged log self.old → TurnoverAddsUp (told line.now result ∷ log) self.new }
-        ensures none_broken_twice { (log : Log) → Logged log self.old → NoneBrokenTwice (told line.now result ∷ log) }
+        ensures logged { (log : Log) → Logged log self.old → Logged (line_put line.now result ∷ log) self.new }
+        ensures shares_balance { (log : Log) → Logged log self.old → SharesBalance (line_put line.now result ∷ log) self.new }
+        ensures orders_add_up { (log : Log) → Logged log self.old → OrdersAddUp (line_put line.now result ∷ log) self.new }
+        ensures turnover_adds_up { (log : Log) → Logged log self.old → TurnoverAddsUp (line_put line.now result ∷ log) self.new }
+        ensures none_broken_twice { (log : Log) → Logged log self.old → NoneBrokenTwice (line_put line.now result ∷ log) }
     {
         self.take_line(line)
     }

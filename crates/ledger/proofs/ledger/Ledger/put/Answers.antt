@@ -1,13 +1,13 @@
 use Rattle.std.proofs.Common.{◌∷◌}
 use Rattle.day_rules.specs.Laws.{LogLaws}
-use Rattle.day_rules.specs.Log.{Log, Logged, told}
+use Rattle.day_rules.specs.Log.{Log, Logged, line_put}
 use Rattle.ledger.proofs.Adding.{after_line, refusal_keeps}
 use Rattle.ledger.proofs.ledger.Ledger.put.Goals as goal
 
 pub returns : goal.returns
 returns g c =
     let took = c.take_line.ensures in
-    let laws : (log : Log) → Logged log c.args.self.now → LogLaws (told c.args.line.now c.take_line.result ∷ log) c.take_line.new.self = λ log h. after_line c.args.line.now log c.args.self.now c.take_line.new.self c.take_line.result h took.says took.leaves in
+    let laws : (log : Log) → Logged log c.args.self.now → LogLaws (line_put c.args.line.now c.take_line.result ∷ log) c.take_line.new.self = λ log h. after_line c.args.line.now log c.args.self.now c.take_line.new.self c.take_line.result h took.says took.leaves in
     record {
       says = took.says;
       leaves = took.leaves;
