@@ -16,7 +16,7 @@ pub data Event : Type 0 where
   executes : (order shares execution : ℕ) → Event
   -- so many shares of the order are cancelled
   cancels : (order shares : ℕ) → Event
-  -- shares are traded against an order that never rested
+  -- shares are traded, and the book stays as it is
   trades : (traded : Execution) → Event
   -- an execution or a trade is broken
   breaks : (execution : ℕ) → Event

@@ -15,7 +15,7 @@ pub data Entry : Type 0 where
 abbrev pub Log : Type 0
 Log = List Entry
 
--- nothing is held and nothing was accepted
+-- nothing is held, nothing was accepted, and the day limit is no more than the greatest
 pub record IsOpening (d : Day) : Type 0 where
   pub orders : d.orders.rows ≡ []
   pub executions : d.executions.rows ≡ []

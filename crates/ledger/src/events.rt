@@ -1,4 +1,4 @@
-// What each message does. Its checks leave the stores nothing to refuse.
+// What each message does. Its checks leave the stores nothing to refuse, but a row that stands already.
 ghost use Rattle.std.specs.Prelude.{◌≡◌, ◌≤◌, Some};
 ghost use Rattle.messages.specs.declared.message.Message.TheVariants.{OrderExecuted, OrderCancel};
 ghost use Rattle.day_rules.specs.Events.{clears, adds, trades, breaks, event_of};

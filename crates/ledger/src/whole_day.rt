@@ -1,7 +1,7 @@
 // Many lines in one call, and a whole day.
 ghost use Rattle.std.specs.Prelude.{◌≡◌, map};
 ghost use Rattle.day_rules.specs.Days.{opening};
-ghost use Rattle.day_rules.specs.Laws.{LogLaws};
+ghost use Rattle.day_rules.specs.Laws.{SharesBalance, OrdersAddUp, TurnoverAddsUp, NoneBrokenTwice, LogLaws};
 ghost use Rattle.day_rules.specs.Log.{Log, Logged};
 ghost use Rattle.ledger.specs.Runs.{answers_on, day_on, log_on, log_of};
 
@@ -45,7 +45,25 @@ pub fn keep_day<O: Store<Order>, E: Store<Execution>, S: Store<SymbolRow>>(
     ensures answers { answers.new ≡ answers_on (opening (O.Store.model stores.0) (E.Store.model stores.1) (S.Store.model stores.2) day_limit) (map (λ line. line.now) lines.now) answers.old }
     ensures leaves { result ≡ day_on (opening (O.Store.model stores.0) (E.Store.model stores.1) (S.Store.model stores.2) day_limit) (map (λ line. line.now) lines.now) answers.old }
     ensures logged { Logged (log_of (map (λ line. line.now) lines.now) answers.new) result }
+    ensures shares_balance { SharesBalance (log_of (map (λ line. line.now) lines.now) answers.new) result }
+    ensures orders_add_up { OrdersAddUp (log_of (map (λ line. line.now) lines.now) answers.new) result }
+    ensures turnover_adds_up { TurnoverAddsUp (log_of (map (λ line. line.now) lines.now) answers.new) result }
+    ensures none_broken_twice { NoneBrokenTwice (log_of (map (λ line. line.now) lines.now) answers.new) }
+    // These four, and what else every log adds up to.
     ensures laws { LogLaws (log_of (map (λ line. line.now) lines.now) answers.new) result }
+{
+    open_and_put(stores, day_limit, lines, answers)
+}
+
+fn open_and_put<O: Store<Order>, E: Store<Execution>, S: Store<SymbolRow>>(
+    stores: (O, E, S),
+    day_limit: u64,
+    lines: &[&[u8]],
+    answers: &mut [Result<Outcome, LedgerFault>],
+) -> Ledger<O, E, S>
+    ensures answers { answers.new ≡ answers_on (opening (O.Store.model stores.0) (E.Store.model stores.1) (S.Store.model stores.2) day_limit) (map (λ line. line.now) lines.now) answers.old }
+    ensures leaves { result ≡ day_on (opening (O.Store.model stores.0) (E.Store.model stores.1) (S.Store.model stores.2) day_limit) (map (λ line. line.now) lines.now) answers.old }
+    ensures logged { Logged (log_of (map (λ line. line.now) lines.now) answers.new) result }
 {
     let (orders, executions, symbols) = stores;
     let mut ledger = Ledger::open(orders, executions, symbols, day_limit);

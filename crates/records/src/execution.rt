@@ -13,7 +13,7 @@ pub struct Execution {
     // in ten-thousandths of a dollar
     pub price: u64,
     pub shares: u64,
-    // taken back since
+    // broken since
     pub broken: bool,
 }
 
