@@ -2,6 +2,7 @@ pub mod Changed
 pub mod Depths
 pub mod Fills
 pub mod Fits
+pub mod Judged
 pub mod Logs
 pub mod Market
 pub mod Orders
@@ -10,3 +11,4 @@ pub mod Rows
 pub mod Standing
 pub mod Stepping
 pub mod Sums
+pub mod Told

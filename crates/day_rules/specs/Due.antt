@@ -8,7 +8,6 @@ use Rattle.records.specs.declared.symbol_row.SymbolRow.{SymbolRow}
 use Rattle.store.specs.Models.{Model}
 use Rattle.day_rules.specs.declared.fault.LedgerFault.{LedgerFault}
 use Rattle.day_rules.specs.declared.fault.StoreName.TheVariants.{Order as order_store, Execution as execution_store, Symbol as symbol_store}
-use Rattle.day_rules.specs.declared.outcome.Outcome.{Outcome}
 use Rattle.day_rules.specs.Days.{Day}
 use Rattle.day_rules.specs.Events.{Event, clears, adds, executes, cancels, trades, breaks, event_of}
 use Rattle.day_rules.specs.Faults.{Carried, numbers, store, refusal_number, refusal_carried}
@@ -60,7 +59,7 @@ pub data LineDue (line : List ℕ) (d : Day) : ℕ → Carried → Type 0 where
   refused : {n : ℕ} {c : Carried} (m : Message) → LaidOut line m → d.accepted < d.day_limit → EventDue d (event_of m) n c → LineDue line d n c
 
 -- the answer is a refusal of that number that carries that
-abbrev pub Refuses : Result Outcome LedgerFault → ℕ → Carried → Type 0
+abbrev pub Refuses : {X : Type 0} → Result X LedgerFault → ℕ → Carried → Type 0
 Refuses (Ok a) n c = ⊥
 Refuses (Err e) n c = (refusal_number e ≡ n) × (refusal_carried e ≡ c)
 
