@@ -1,3 +1,4 @@
+pub mod Answering
 pub mod Changed
 pub mod Depths
 pub mod Fills
@@ -12,3 +13,4 @@ pub mod Standing
 pub mod Stepping
 pub mod Sums
 pub mod Told
+pub mod Traded

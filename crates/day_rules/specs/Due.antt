@@ -13,7 +13,7 @@ use Rattle.day_rules.specs.Events.{Event, clears, adds, executes, cancels, trade
 use Rattle.day_rules.specs.Faults.{Carried, numbers, store, refusal_number, refusal_carried}
 use Rattle.day_rules.specs.Rules.{order_in, execution_in, row_in, answer}
 
--- the store holds as many as its limit allows, or fewer
+-- the store holds as many as its limit allows, or more
 abbrev pub IsFull : {X : Type 0} → Model X → Type 0
 IsFull m = m.limit ≤ length m.rows
 
