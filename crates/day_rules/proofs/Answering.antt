@@ -1,23 +1,23 @@
 -- What each accepted message is answered, in words of the log that ends with it.
-use Rattle.std.proofs.Common.{◌≡◌, ℕ, ◌+◌, ◌<◌, ◌≤◌, true, false, cond, eqb, ltb, ◌∷◌, Some, None, Ok, Option, refl, sym, ap, ◌∙◌, subst, ⊎_elim, arith}
+use Rattle.std.proofs.Common.{◌≡◌, ℕ, ◌<◌, ◌≤◌, true, false, ltb, ◌∷◌, Some, None, Ok, Option, refl, sym, ap, ◌∙◌, subst, ⊎_elim, arith}
 use Rattle.std.proofs.lemmas.Bool.{cases_eq, eq-eqb, ne_eqb, ltb-false}
 use Rattle.records.specs.declared.order.Order.{Order}
 use Rattle.records.specs.declared.execution.Execution.{Execution}
-use Rattle.records.specs.Keys.{execution_key, symbol_key}
-use Rattle.store.specs.Lists.{lookup, placed, replaced}
+use Rattle.records.specs.Keys.{execution_key}
+use Rattle.store.specs.Lists.{lookup}
 use Rattle.store.proofs.Ruling.{found-key, found-each}
-use Rattle.book.specs.Books.{sum, is_of}
 use Rattle.day_rules.specs.declared.outcome.Outcome.{Outcome}
-use Rattle.day_rules.specs.Days.{Day, greatest_limit}
+use Rattle.day_rules.specs.Days.{Day}
 use Rattle.day_rules.specs.Events.{Event, clears, adds, executes, cancels, trades, breaks}
-use Rattle.day_rules.specs.Rules.{order_in, execution_in, row_in, shares_at_hand, may_trade, may_execute, may_cancel, unbroken, may_break, allowed, marked, row_after, leaving, breaking, broken, volume_left, after, outcome, counted}
-use Rattle.day_rules.specs.Words.{History, fills, fill_with, marked_if, logged_order, logged_execution, row_needed, shares_added, shares_taken, shares_cleared, volume_of, IsWhatIsLeft, symbol_of, IsAnswer}
+use Rattle.day_rules.specs.Rules.{order_in, execution_in, shares_at_hand, may_trade, may_execute, may_cancel, unbroken, may_break, allowed, row_after, leaving, breaking, broken, after, outcome, counted}
+use Rattle.day_rules.specs.Words.{History, fills, fill_with, marked_if, logged_order, logged_execution, row_needed, volume_of, IsWhatIsLeft, symbol_of, IsAnswer}
 use Rattle.day_rules.proofs.Orders.{left_if, others_of, Takes, its_left}
 use Rattle.day_rules.proofs.Rows.{row-held, row-filled, one_less}
-use Rattle.day_rules.proofs.Standing.{NarrowFill, EventFits, Stands, said, shares_if, stored, row_stored}
+use Rattle.day_rules.proofs.Standing.{NarrowFill, EventFits, Stands, said, stored}
 use Rattle.day_rules.proofs.Stepping.{taken-by-execution, taken-by-cancel, few_fills, joined_fill, at_hand, in_hand, still_whole}
 use Rattle.day_rules.proofs.Traded.{stored-traded}
 
+-- what is answered is what is left of the order
 what_is_left : (n : ℕ) (o : Order) → n ≤ o.shares → IsWhatIsLeft (leaving n (Some o)) (left_if false n o)
 what_is_left n o l =
     ⊎_elim
@@ -35,6 +35,7 @@ module _ (h : History) (d : Day) (st : Stands h d) (room : d.accepted < d.day_li
   abbrev Then : Event → Type 0
   Then e = Stands (said e (outcome e d) ∷ h) (counted (after e d))
 
+  -- no order of the symbol is left
   clear_answer : (c : ℕ) → Then (clears c) → IsAnswer (clears c) (outcome (clears c) d) (said (clears c) (outcome (clears c) d) ∷ h)
   clear_answer c now =
       let b = now.orders.balance c in
@@ -43,6 +44,7 @@ module _ (h : History) (d : Day) (st : Stands h d) (room : d.accepted < d.day_li
       omega arith
 
   module _ (i n : ℕ) (o : Order) (e : Event) (takes : Takes i n e) (answered : Outcome) (found : order_in i d ≡ Some o) (enough : n ≤ o.shares) where
+    -- shares taken off an order
     take_answer : IsWhatIsLeft (leaving n (Some o)) (logged_order i (said e answered ∷ h))
     take_answer = rw (its_left h d.orders.rows st.orders answered i n o e takes found enough) (what_is_left n o enough)
 
@@ -57,6 +59,7 @@ module _ (h : History) (d : Day) (st : Stands h d) (room : d.accepted < d.day_li
   cancel_answer i n answered (Some o) is ok =
       take_answer i n o (cancels i n) (taken-by-cancel i n) answered is (ltb-false o.shares n (in_hand h d st room (ltb o.shares n) _ o ok))
 
+  -- the row has the volume that the log says
   trade_answer : (e : Execution) → NarrowFill e → e.broken ≡ false → may_trade e.id e.symbol d ≡ Ok tt → Then (trades e) → (row_after e d).volume ≡ volume_of e.symbol (said (trades e) (outcome (trades e) d) ∷ h)
   trade_answer e fits whole ok now =
       ap (λ r. r.volume) (row-filled h (said (trades e) (outcome (trades e) d) ∷ h) e whole fits (λ j. refl) d.executions.rows st.fills.narrow d.symbols st.rows (few_fills h d st room))
@@ -67,6 +70,7 @@ module _ (h : History) (d : Day) (st : Stands h d) (room : d.accepted < d.day_li
   unfolding logged_execution
   logged_symbol x found is = ap symbol_of (sym is ∙ (st.fills.each x).is) ∙ same_symbol _ (fill_with x (fills h))
 
+  -- and so it has after a break
   break_answer : (x : ℕ) (answered : Outcome) (found : Option Execution) → execution_in x d ≡ found → may_break (unbroken found) ≡ Ok tt
       → Stands (said (breaks x) answered ∷ h) (counted (broken found d)) → IsAnswer (breaks x) (breaking found d) (said (breaks x) answered ∷ h)
   break_answer x answered None is ok now = cc

@@ -1,10 +1,9 @@
 -- Each refusal is given in its own case, and in that case only.
-use Rattle.std.proofs.Common.{◌≡◌, ℕ, ◌<◌, ◌≤◌, true, false, cond, leb, ltb, not, ◌&&◌, List, [], length, is_some, Some, None, Ok, Err, Option, Result, refl, sym, ap, ◌∙◌, subst, ⊎_elim}
+use Rattle.std.proofs.Common.{◌≡◌, ℕ, ◌<◌, cond, leb, ltb, not, ◌&&◌, List, length, is_some, Some, None, Ok, Err, Option, Result, refl, ap, subst, ⊎_elim}
 use Rattle.std.proofs.lemmas.Bool.{cases_Bool, leb-true, leb-false, le-leb, lt-leb, ltb-true, ltb-false, lt-ltb, le-ltb}
 use Rattle.messages.specs.declared.fault.MessageFault.{MessageFault}
 use Rattle.messages.specs.declared.message.Message.{Message}
-use Rattle.messages.specs.Lines.{line_read}
-use Rattle.messages.specs.Refusals.{LaidOut, Due}
+use Rattle.messages.specs.Refusals.{LaidOut}
 use Rattle.messages.specs.Telling.{line_message}
 use Rattle.messages.proofs.Back.{message-read}
 use Rattle.messages.proofs.Judging.{due-refused}
@@ -13,7 +12,7 @@ use Rattle.records.specs.declared.execution.Execution.{Execution}
 use Rattle.records.specs.declared.symbol_row.SymbolRow.{SymbolRow}
 use Rattle.store.specs.Models.{Model}
 use Rattle.day_rules.specs.declared.fault.LedgerFault.{LedgerFault}
-use Rattle.day_rules.specs.declared.fault.LedgerFault.TheVariants.{Full, Closed}
+use Rattle.day_rules.specs.declared.fault.LedgerFault.TheVariants.{Full}
 use Rattle.day_rules.specs.declared.fault.StoreName.{StoreName}
 use Rattle.day_rules.specs.declared.fault.StoreName.TheVariants.{Order as order_store, Execution as execution_store, Symbol as symbol_store}
 use Rattle.day_rules.specs.declared.outcome.Outcome.{Outcome}
@@ -49,6 +48,7 @@ module _ (d : Day) where
           (cases_Bool (leb d.symbols.limit (length d.symbols.rows)))))
           (cases_Bool (leb m.limit (length m.rows)))
 
+    -- no record more, or no row more
     full_refused : (row : Option SymbolRow) → IsFull m → Refuses (roomy row) 12 (store name)
     full_refused row l = rw (le-leb m.limit (length m.rows) l) (refl, refl)
 
@@ -109,6 +109,7 @@ module _ (d : Day) where
   take_refused i k (absent is) = rw is (refl, refl)
   take_refused i k (excess {o = o} is l) = rw (is, lt-ltb o.shares k l) (refl, refl)
 
+  -- a refusal to take the shares is the message's
   then_execute : (x : ℕ) (r : Result Order LedgerFault) (n : ℕ) (c : Carried) → Refuses r n c → Refuses (may_execute x d r) n c
   then_execute x (Ok o) n c f = absurd f
   then_execute x (Err e) n c f = f
@@ -131,6 +132,7 @@ module _ (d : Day) where
 
 -- A line.
 
+-- what is refused is what is due
 given_due : (D : ℕ → Carried → Type 0) (r : Result Outcome LedgerFault) (n : ℕ) (c : Carried) → Given D r → Refuses r n c → D n c
 given_due D (Ok a) n c g f = absurd f
 given_due D (Err e) n c g f = subst (λ k. D k c) f.0 (subst (D (refusal_number e)) f.1 g)
@@ -145,6 +147,7 @@ refused_answer (Err e) a n c f = f
 
 module _ (line : List ℕ) (d : Day) where
   module _ (m : Message) (laid : LaidOut line m) where
+    -- below the day limit
     open_given : d.accepted < d.day_limit → (r : Result (Unit {0}) LedgerFault) → Given (EventDue d (event_of m)) r → Given (LineDue line d) r
     open_given room (Ok u) g = g
     open_given room (Err e) g = refused m laid room g

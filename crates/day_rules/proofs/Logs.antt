@@ -1,5 +1,5 @@
 -- Every log adds up, as what it stands for does.
-use Rattle.std.proofs.Common.{◌≡◌, ℕ, ◌≤◌, cond, true, eqb, leb, List, [], ◌∷◌, Some, None, Ok, Err, Option, Result, refl, sym, ap, ◌∙◌, ⊎_elim, arith}
+use Rattle.std.proofs.Common.{◌≡◌, ℕ, ◌≤◌, true, eqb, leb, List, [], ◌∷◌, Some, None, Ok, Err, Option, Result, refl, sym, ap, ◌∙◌, ⊎_elim, arith}
 use Rattle.std.proofs.lemmas.Bool.{cases_Bool, eqb-true, leb-false}
 use Rattle.std.proofs.lemmas.Bool.Decides.{nat_tests}
 use Rattle.messages.specs.declared.fault.MessageFault.{MessageFault}
@@ -20,16 +20,16 @@ use Rattle.day_rules.specs.Log.{Log, IsOpening, Logged, line_put, question_put}
 use Rattle.day_rules.specs.Questions.{market_in}
 use Rattle.day_rules.specs.Rows.{execution_worth, row_of, row_or_new}
 use Rattle.day_rules.specs.Rules.{less_shares, row_in, allowed, permitted, outcome, after, counted, or_refused, or_same, message_answer, message_after, answer, next}
-use Rattle.day_rules.specs.Words.{History, history, last_add, since_add, clear_among, taken_off, left_of_add, fills, counts_for, traded, times_broken, volume_of, value_of, all_traded, logged_order, logged_execution, logged_row, row_needed, IsLatestAnswer}
+use Rattle.day_rules.specs.Words.{History, history, last_add, since_add, clear_among, taken_off, left_of_add, fills, times_broken, volume_of, value_of, all_traded, logged_order, logged_execution, logged_row, row_needed, IsLatestAnswer}
 use Rattle.day_rules.proofs.Answering.{event-answer}
 use Rattle.day_rules.proofs.Depths.{resting}
 use Rattle.day_rules.proofs.Fits.{line-fits}
-use Rattle.day_rules.proofs.Standing.{NarrowOrder, broken_times, unless_broken, unless_marked, if_of, stored, row_stored, Stands}
+use Rattle.day_rules.proofs.Standing.{NarrowOrder, broken_times, unless_marked, row_stored, Stands}
 use Rattle.day_rules.proofs.Market.{all-shares, all-worth}
 use Rattle.day_rules.proofs.Rows.{same-row, parted, row-now}
 use Rattle.day_rules.proofs.Stepping.{passed, few, step}
 use Rattle.day_rules.proofs.Traded.{stored-traded}
-use Rattle.day_rules.proofs.Sums.{sum-same, sum-those, each-all}
+use Rattle.day_rules.proofs.Sums.{sum-those}
 
 -- What a day stands for adds up.
 

@@ -76,6 +76,7 @@ module _ (h : History) (d : Day) (st : Stands h d) (room : d.accepted < d.day_li
       (pass-stands h d.executions.rows st.fills answered (adds o) (λ x. refl) refl)
       (add-rows h (said (adds o) answered ∷ h) o.symbol fits.symbol (λ j. refl) d.executions.rows d.symbols st.rows row.0)
 
+  -- an execution or a trade that may be stored is
   pub joined_fill : (f : Execution) → NarrowFill f → may_trade f.id f.symbol d ≡ Ok tt → inserted execution_key f d.executions ≡ holding (placed execution_key f d.executions.rows) d.executions
   joined_fill f fits ok =
       let free = passed (holds execution_key f.id d.executions.rows) _ _ ok in

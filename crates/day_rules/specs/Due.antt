@@ -1,15 +1,14 @@
 -- When each refusal of a ledger is due: its number, and what it carries.
-use Rattle.std.specs.Prelude.{◌≡◌, ℕ, ◌<◌, ◌≤◌, ◌↔◌, List, [], length, Some, None, Ok, Err, Result, true, false, ◌⊎◌}
+use Rattle.std.specs.Prelude.{◌≡◌, ℕ, ◌<◌, ◌≤◌, ◌↔◌, List, [], length, Some, None, Ok, Err, Result, true}
 use Rattle.messages.specs.declared.message.Message.{Message}
 use Rattle.messages.specs.Refusals.{LaidOut, Due}
 use Rattle.records.specs.declared.order.Order.{Order}
 use Rattle.records.specs.declared.execution.Execution.{Execution}
-use Rattle.records.specs.declared.symbol_row.SymbolRow.{SymbolRow}
 use Rattle.store.specs.Models.{Model}
 use Rattle.day_rules.specs.declared.fault.LedgerFault.{LedgerFault}
 use Rattle.day_rules.specs.declared.fault.StoreName.TheVariants.{Order as order_store, Execution as execution_store, Symbol as symbol_store}
 use Rattle.day_rules.specs.Days.{Day}
-use Rattle.day_rules.specs.Events.{Event, clears, adds, executes, cancels, trades, breaks, event_of}
+use Rattle.day_rules.specs.Events.{Event, adds, executes, cancels, trades, breaks, event_of}
 use Rattle.day_rules.specs.Faults.{Carried, numbers, store, refusal_number, refusal_carried}
 use Rattle.day_rules.specs.Rules.{order_in, execution_in, row_in, answer}
 
