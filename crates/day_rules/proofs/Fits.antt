@@ -1,10 +1,10 @@
 -- What a line says is as narrow as its fields.
-use Rattle.std.proofs.Common.{◌≡◌, ℕ, suc, ◌+◌, ◌-◌, ◌^◌, ◌<◌, ◌≤◌, List, [], ◌∷◌, ◌++◌, length, get_or, replicate, Ok, Err, Result, refl, sym, subst, arith}
+use Rattle.std.proofs.Common.{◌≡◌, ℕ, true, suc, ◌+◌, ◌-◌, ◌^◌, ◌<◌, ◌≤◌, List, [], ◌∷◌, ◌++◌, length, get_or, replicate, Ok, Err, Result, refl, sym, subst, arith}
 use Rattle.std.specs.Int.Digits.{AllBelowBase}
 use Rattle.std.proofs.ByRecursion.{All-append}
 use Rattle.std.proofs.lemmas.Int.Digits.{number_lt}
 use Rattle.std.proofs.lemmas.List.{length-append, length-replicate}
-use Rattle.layout.specs.Slots.{Slot, number, text, choice, Spells}
+use Rattle.layout.specs.Slots.{Slot, number, text, choice, is_one_of, Spells}
 use Rattle.layout.specs.Fields.{Field, Laid}
 use Rattle.layout.proofs.Padding.{under-padded}
 use Rattle.messages.specs.declared.fault.MessageFault.{MessageFault}
@@ -17,11 +17,11 @@ use Rattle.messages.proofs.Judging.{Judged, judged}
 use Rattle.day_rules.specs.Events.{event_of}
 use Rattle.day_rules.proofs.Standing.{EventFits}
 
--- how small and how great a number that a slot spells can be
-abbrev Bounded : Slot → ℕ → Type 0
+-- how small and how great a number that a slot spells can be, or one of which letters
+abbrev pub Bounded : Slot → ℕ → Type 0
 Bounded (number base count low high) v = (low ≤ v) × (v ≤ high)
 Bounded (text class least w whole) v = v < 256 ^ (w + (whole - w))
-Bounded (choice letters) v = Unit {0}
+Bounded (choice letters) v = is_one_of letters v ≡ true
 
 bounded : (s : Slot) (p : List ℕ) (v : ℕ) → Spells s p v → Bounded s v
 bounded (number base count low high) p v h = (h.least, h.most)
@@ -30,14 +30,14 @@ bounded (text class least w whole) p v h =
     let under : AllBelowBase 256 p = subst (AllBelowBase 256) (sym h.split) (under-padded class h.name h.spaces h.inside) in
     let size : length (p ++ pad) ≡ w + (whole - w) = simp (length-append, length-replicate, h.size) in
     rw (← h.value, ← size) (number_lt 256 (p ++ pad) (All-append (λ d. d < 256) p pad under (under-padded class [] (whole - w) tt)))
-bounded (choice letters) p v h = tt
+bounded (choice letters) p v h = h.member
 
 -- each field's value, by place
-abbrev Within : List Field → (ℕ → ℕ) → Type 0
+abbrev pub Within : List Field → (ℕ → ℕ) → Type 0
 Within [] at_place = Unit {0}
 Within (f ∷ fs) at_place = Bounded f.slot (at_place 0) × Within fs (λ i. at_place (suc i))
 
-within : (fs : List Field) (xs vs : List ℕ) → Laid fs xs vs → Within fs (λ i. get_or vs i 0)
+pub within : (fs : List Field) (xs vs : List ℕ) → Laid fs xs vs → Within fs (λ i. get_or vs i 0)
 within [] xs vs l = tt
 within (f ∷ fs) xs [] l = absurd l
 within (f ∷ fs) xs (v ∷ vs) l = (bounded f.slot _ v l.0, within fs xs vs l.1)

@@ -1,7 +1,9 @@
+pub mod Answering
 pub mod Changed
 pub mod Depths
 pub mod Fills
 pub mod Fits
+pub mod Judged
 pub mod Logs
 pub mod Market
 pub mod Orders
@@ -10,3 +12,5 @@ pub mod Rows
 pub mod Standing
 pub mod Stepping
 pub mod Sums
+pub mod Told
+pub mod Traded

@@ -1,5 +1,5 @@
 -- Every log adds up, as what it stands for does.
-use Rattle.std.proofs.Common.{◌≡◌, ℕ, ◌≤◌, cond, true, eqb, leb, List, [], ◌∷◌, Some, None, Ok, Err, Option, Result, refl, sym, ap, ◌∙◌, ⊎_elim, arith}
+use Rattle.std.proofs.Common.{◌≡◌, ℕ, ◌≤◌, true, eqb, leb, List, [], ◌∷◌, Some, None, Ok, Err, Option, Result, refl, sym, ap, ◌∙◌, ⊎_elim, arith}
 use Rattle.std.proofs.lemmas.Bool.{cases_Bool, eqb-true, leb-false}
 use Rattle.std.proofs.lemmas.Bool.Decides.{nat_tests}
 use Rattle.messages.specs.declared.fault.MessageFault.{MessageFault}
@@ -20,14 +20,16 @@ use Rattle.day_rules.specs.Log.{Log, IsOpening, Logged, line_put, question_put}
 use Rattle.day_rules.specs.Questions.{market_in}
 use Rattle.day_rules.specs.Rows.{execution_worth, row_of, row_or_new}
 use Rattle.day_rules.specs.Rules.{less_shares, row_in, allowed, permitted, outcome, after, counted, or_refused, or_same, message_answer, message_after, answer, next}
-use Rattle.day_rules.specs.Words.{History, history, last_add, since_add, clear_among, taken_off, left_of_add, fills, counts_for, traded, times_broken, volume_of, value_of, all_traded, logged_order, logged_execution, logged_row, row_needed}
+use Rattle.day_rules.specs.Words.{History, history, last_add, since_add, clear_among, taken_off, left_of_add, fills, times_broken, volume_of, value_of, all_traded, logged_order, logged_execution, logged_row, row_needed, IsLatestAnswer}
+use Rattle.day_rules.proofs.Answering.{event-answer}
 use Rattle.day_rules.proofs.Depths.{resting}
 use Rattle.day_rules.proofs.Fits.{line-fits}
-use Rattle.day_rules.proofs.Standing.{NarrowOrder, broken_times, unless_broken, unless_marked, if_of, stored, row_stored, Stands}
+use Rattle.day_rules.proofs.Standing.{NarrowOrder, broken_times, unless_marked, row_stored, Stands}
 use Rattle.day_rules.proofs.Market.{all-shares, all-worth}
 use Rattle.day_rules.proofs.Rows.{same-row, parted, row-now}
 use Rattle.day_rules.proofs.Stepping.{passed, few, step}
-use Rattle.day_rules.proofs.Sums.{sum-same, sum-those, each-all}
+use Rattle.day_rules.proofs.Traded.{stored-traded}
+use Rattle.day_rules.proofs.Sums.{sum-those}
 
 -- What a day stands for adds up.
 
@@ -56,18 +58,8 @@ once None = omega arith
 once (Some e) = grind (arith, nat_tests)
 
 module _ (h : History) (d : Day) (st : Stands h d) where
-  counted_so : (w : Execution → ℕ) (s : ℕ) (e : Execution) → cond (counts_for s h e) (w e) 0 ≡ unless_broken (if_of w s) h e
-  counted_so w s e = grind (arith, nat_tests)
-
-  stored-traded : (w : Execution → ℕ) (s : ℕ) → stored w s d.executions.rows ≡ sum w (traded s h)
-  stored-traded w s =
-      sym
-      (sum-those w (counts_for s h) (fills h)
-      ∙ sum-same (λ e. cond (counts_for s h e) (w e) 0) (unless_broken (if_of w s) h) (fills h) (each-all _ (counted_so w s) (fills h))
-      ∙ st.fills.same (if_of w s))
-
   row_by_log : (s : ℕ) → row_stored s d.executions.rows ≡ row_of s (volume_of s h) (value_of s h)
-  row_by_log s = same-row s _ _ _ _ (stored-traded (λ e. e.shares) s) (stored-traded execution_worth s)
+  row_by_log s = same-row s _ _ _ _ (stored-traded h d st (λ e. e.shares) s) (stored-traded h d st execution_worth s)
 
   row_says : (s : ℕ) → row_or_new s (row_in s d) ≡ row_of s (volume_of s h) (value_of s h)
   row_says s = row-now h d.executions.rows d.symbols.rows st.rows s (row_in s d) refl ∙ row_by_log s
@@ -105,31 +97,40 @@ opened d o =
       rows = rw (o.executions, o.symbols) (record { rising = tt; needed = tt; each = λ s. refl });
     }
 
-module _ (line : List ℕ) (log : Log) (d : Day) (st : Stands (history log) d) where
+-- and the latest message got its answer
+abbrev Follows : History → Day → Type 0
+Follows h d = Stands h d × IsLatestAnswer h
+
+module _ (line : List ℕ) (log : Log) (d : Day) (before : Follows (history log) d) where
   by_event : (m : Message) → line_message line ≡ Ok m → (p : Result (Unit {0}) LedgerFault) → permitted (event_of m) d ≡ p
-      → Stands (history (line_put line (or_refused p (outcome (event_of m) d)) ∷ log)) (or_same p (counted (after (event_of m) d)) d)
-  by_event m is (Err f) permits = st
+      → Follows (history (line_put line (or_refused p (outcome (event_of m) d)) ∷ log)) (or_same p (counted (after (event_of m) d)) d)
+  by_event m is (Err f) permits = before
   by_event m is (Ok u) permits =
+      let st = before.0 in
       let ok = passed (leb d.day_limit d.accepted) _ (allowed (event_of m) d) permits in
-      rw is (step (history log) d st (leb-false d.day_limit d.accepted ok.0) (event_of m) (line-fits line m is) ok.1)
+      let room = leb-false d.day_limit d.accepted ok.0 in
+      let fits = line-fits line m is in
+      let now = step (history log) d st room (event_of m) fits ok.1 in
+      rw is (now, event-answer (history log) d st room (event_of m) fits ok.1 now)
 
-  by_line : (r : Result Message MessageFault) → line_message line ≡ r → Stands (history (line_put line (message_answer r d) ∷ log)) (message_after r d)
+  by_line : (r : Result Message MessageFault) → line_message line ≡ r → Follows (history (line_put line (message_answer r d) ∷ log)) (message_after r d)
   by_line (Ok m) is = by_event m is (permitted (event_of m) d) refl
-  by_line (Err f) is = st
+  by_line (Err f) is = before
 
-  line_stands : Stands (history (line_put line (answer line d) ∷ log)) (next line d)
+  line_follows : Follows (history (line_put line (answer line d) ∷ log)) (next line d)
   unfolding answer next
-  line_stands = by_line (line_message line) refl
+  line_follows = by_line (line_message line) refl
 
-pub logged_stands : (log : Log) (d : Day) → Logged log d → Stands (history log) d
-logged_stands [] d l = opened d l
-logged_stands (line_put line answered ∷ log) d l = rw (l.2, l.3) (line_stands line log l.0 (logged_stands log l.0 l.1))
-logged_stands (question_put q replied ∷ log) d l = logged_stands log d l.0
+logged_follows : (log : Log) (d : Day) → Logged log d → Follows (history log) d
+logged_follows [] d l = (opened d l, tt)
+logged_follows (line_put line answered ∷ log) d l = rw (l.2, l.3) (line_follows line log l.0 (logged_follows log l.0 l.1))
+logged_follows (question_put q replied ∷ log) d l = logged_follows log d l.0
 
 pub every_log : EveryLog
 unfolding IsBalanced IsLeft logged_order logged_row
 every_log log d l =
-    let st = logged_stands log d l in
+    let all = logged_follows log d l in
+    let st = all.0 in
     let os = st.orders in
     record {
       shares_balance = λ s. let b = os.balance s in let r = resting d.orders.rows os.narrow (few (history log) d st _ os.count) s in omega arith;
@@ -144,6 +145,7 @@ every_log log d l =
       rows_as_traded = λ s. st.rows.each s ∙ rw (row_by_log (history log) d st s) refl;
       market_adds_up = market (history log) d st;
       accepted_are_counted = st.count;
+      answers_add_up = all.1;
       executions_have_rows = λ x e is.
           let needed = found-each execution_key (λ f. row_needed f.symbol (history log) ≡ true) x d.executions.rows e st.rows.needed is in
           rw (st.rows.each e.symbol) (rw needed refl);

@@ -34,7 +34,7 @@ unadded id (trades e) earlier n = refl
 unadded id (breaks x) earlier n = refl
 
 -- what is left of an order, if its symbol is not cleared, after so many shares are taken off
-abbrev left_if : Bool → ℕ → Order → Option Order
+abbrev pub left_if : Bool → ℕ → Order → Option Order
 left_if gone n o = cond (gone || eqb n o.shares) None (Some (less_shares n o))
 
 abbrev left_after : (ℕ → Bool) → ℕ → Option Order → Option Order
@@ -138,7 +138,7 @@ pub record Spares (e : Event) : Type 0 where
   pub off_none : (s : ℕ) (h : History) → off_symbol s e h ≡ 0
 
 -- the shares of a symbol, with those of one symbol apart
-others_of : (c s : ℕ) (os : List Order) → sum (shares_if s) (others (is_of c) os) + cond (eqb c s) (sum (shares_if c) os) 0 ≡ sum (shares_if s) os
+pub others_of : (c s : ℕ) (os : List Order) → sum (shares_if s) (others (is_of c) os) + cond (eqb c s) (sum (shares_if c) os) 0 ≡ sum (shares_if s) os
 others_of c s [] = grind (arith, nat_tests)
 others_of c s (o ∷ os) = grind (arith, nat_tests, others_of c s os)
 
@@ -202,7 +202,8 @@ module _ (h : History) (os : List Order) (st : OrdersStand h os) (answered : Out
     here : off_order i e ≡ n
     here = let off = takes.off i in rw (eq-eqb i i refl) at off
 
-    its_left : logged_order i (said e answered ∷ h) ≡ left_if false n o
+    -- what the log leaves of it
+    pub its_left : logged_order i (said e answered ∷ h) ≡ left_if false n o
     its_left = left_now e i (Some o) found (takes.adds_none i) (rw here enough) ∙ rw (here, takes.clears_none o.symbol) refl
 
     taken : (x : Option Order) (now : List Order) → Changed order_key i x os now → x ≡ left_if false n o → Each NarrowOrder now → length now ≤ length os

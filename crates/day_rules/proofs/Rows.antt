@@ -112,7 +112,7 @@ module _ (e : Execution) (unbroken : e.broken ≡ false) (es : List Execution) w
     rows_less : (s : ℕ) → (e.symbol ≡ s → ⊥) → row_stored s (replaced execution_key (marked e) es) ≡ row_stored s es
     rows_less s n = same-row s _ _ _ _ (less_other (λ f. f.shares) s n) (less_other execution_worth s n)
 
-    one_less : Each NarrowFill es → length es ≤ greatest_limit → without_execution e (row_stored e.symbol es) ≡ row_stored e.symbol (replaced execution_key (marked e) es)
+    pub one_less : Each NarrowFill es → length es ≤ greatest_limit → without_execution e (row_stored e.symbol es) ≡ row_stored e.symbol (replaced execution_key (marked e) es)
     one_less narrow few =
         let whole = parted (stored execution_worth e.symbol es) in
         let small = stored_few execution_worth (999999 * 9999999999) worth-most es narrow few e.symbol in
@@ -167,16 +167,19 @@ module _ (h now_h : History) (s : ℕ) (small : s < 2 ^ 64) (needs : (j : ℕ) �
 
 module _ (h now_h : History) (e : Execution) (unbroken : e.broken ≡ false) (fits : NarrowFill e) (needs : (j : ℕ) → row_needed j now_h ≡ (eqb e.symbol j || row_needed j h))
     (es : List Execution) (narrow : Each NarrowFill es) (m : Model SymbolRow) (st : RowsStand h es m.rows) where
+  -- the row that an execution or a trade leaves
+  pub row-filled : length es < greatest_limit → with_execution e (row_or_new e.symbol (lookup symbol_key e.symbol m.rows)) ≡ row_stored e.symbol (placed execution_key e es)
+  row-filled few =
+      let count : length (placed execution_key e es) ≤ greatest_limit = (let l = length-placed execution_key e es in omega arith) in
+      ap (with_execution e) (row-now h es m.rows st e.symbol (lookup symbol_key e.symbol m.rows) refl) ∙ one_more e unbroken es (each_placed execution_key NarrowFill e es fits narrow) count
+
   -- an execution or a trade
   pub fill-rows : length es < greatest_limit → (not (holds symbol_key e.symbol m.rows) && is_full m) ≡ false
       → RowsStand now_h (placed execution_key e es) (row_put (lookup symbol_key e.symbol m.rows) (with_execution e (row_or_new e.symbol (lookup symbol_key e.symbol m.rows))) m).rows
   fill-rows few room =
       let found = lookup symbol_key e.symbol m.rows in
       let more = placed execution_key e es in
-      let count : length more ≤ greatest_limit = (let l = length-placed execution_key e es in omega arith) in
-      let r : with_execution e (row_or_new e.symbol found) ≡ row_stored e.symbol more =
-      ap (with_execution e) (row-now h es m.rows st e.symbol found refl) ∙ one_more e unbroken es (each_placed execution_key NarrowFill e es fits narrow) count in
-      subst (λ q. RowsStand now_h more (row_put found q m).rows) (sym r)
+      subst (λ q. RowsStand now_h more (row_put found q m).rows) (sym (row-filled few))
       (changed h now_h e.symbol fits.symbol needs es m st more
       (each_placed execution_key (λ f. row_needed f.symbol now_h ≡ true) e es (needed_own h now_h e.symbol fits.symbol needs) (all_needed h now_h e.symbol fits.symbol needs es m st))
       (rows_more e unbroken es)

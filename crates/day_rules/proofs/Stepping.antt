@@ -28,10 +28,10 @@ passed false f r e = (refl, e)
 joins : {X : Type 0} (key : X → ℕ) (r : X) (m : Model X) → holds key (key r) m.rows ≡ false → is_full m ≡ false → inserted key r m ≡ holding (placed key r m.rows) m
 joins key r m free room = rw (free, room) refl
 
-taken-by-execution : (i n x : ℕ) → Takes i n (executes i n x)
+pub taken-by-execution : (i n x : ℕ) → Takes i n (executes i n x)
 taken-by-execution i n x = record { adds_none = λ id. refl; clears_none = λ s. refl; brings_none = λ s. refl; reports_none = λ s a. refl; off = λ id. refl; off_its = λ s h. refl }
 
-taken-by-cancel : (i n : ℕ) → Takes i n (cancels i n)
+pub taken-by-cancel : (i n : ℕ) → Takes i n (cancels i n)
 taken-by-cancel i n = record { adds_none = λ id. refl; clears_none = λ s. refl; brings_none = λ s. refl; reports_none = λ s a. refl; off = λ id. refl; off_its = λ s h. refl }
 
 spared-by-trade : (e : Execution) → Spares (trades e)
@@ -55,7 +55,7 @@ module _ (h : History) (d : Day) (st : Stands h d) (room : d.accepted < d.day_li
       let l = st.day_limit in
       record { count = omega arith; day_limit = omega arith; within = omega arith; orders = orders; fills = fills; rows = rows }
 
-  few_fills : length d.executions.rows < greatest_limit
+  pub few_fills : length d.executions.rows < greatest_limit
   few_fills = let n = st.fills.count in let c = st.count in let l = st.day_limit in omega arith
 
   after_clear : (c : ℕ) → Stands (said (clears c) (cleared c d) ∷ h) (counted (after (clears c) d))
@@ -76,6 +76,14 @@ module _ (h : History) (d : Day) (st : Stands h d) (room : d.accepted < d.day_li
       (pass-stands h d.executions.rows st.fills answered (adds o) (λ x. refl) refl)
       (add-rows h (said (adds o) answered ∷ h) o.symbol fits.symbol (λ j. refl) d.executions.rows d.symbols st.rows row.0)
 
+  -- an execution or a trade that may be stored is
+  pub joined_fill : (f : Execution) → NarrowFill f → may_trade f.id f.symbol d ≡ Ok tt → inserted execution_key f d.executions ≡ holding (placed execution_key f d.executions.rows) d.executions
+  joined_fill f fits ok =
+      let free = passed (holds execution_key f.id d.executions.rows) _ _ ok in
+      let place = passed (is_full d.executions) _ _ free.1 in
+      let free_by_key : holds execution_key (execution_key f) d.executions.rows ≡ false = rw (own_key f.id fits.id) free.0 in
+      joins execution_key f d.executions free_by_key place.0
+
   -- an execution or a trade, by what it leaves of the orders
   after_fill : (e : Event) (answered : Outcome) (m : Model Order) (f : Execution) → OrdersStand (said e answered ∷ h) m.rows → ((x : ℕ) → breaks_of x e ≡ 0) → then_fill e h (fills h) ≡ f ∷ fills h
       → ((j : ℕ) → row_needed j (said e answered ∷ h) ≡ (eqb f.symbol j || row_needed j h)) → NarrowFill f → f.broken ≡ false → may_trade f.id f.symbol d ≡ Ok tt → Stands (said e answered ∷ h) (counted (filled f (with_orders m d)))
@@ -83,8 +91,7 @@ module _ (h : History) (d : Day) (st : Stands h d) (room : d.accepted < d.day_li
       let free = passed (holds execution_key f.id d.executions.rows) _ _ ok in
       let place = passed (is_full d.executions) _ _ free.1 in
       let row = passed (lacks_row f.symbol d) _ _ place.1 in
-      let free_by_key : holds execution_key (execution_key f) d.executions.rows ≡ false = rw (own_key f.id fits.id) free.0 in
-      let joined = joins execution_key f d.executions free_by_key place.0 in
+      let joined = joined_fill f fits ok in
       stand e answered (filled f (with_orders m d)) refl refl
       orders
       (rw joined (fill-stands h d.executions.rows st.fills answered e no_break f is fits whole free.0))
@@ -99,7 +106,7 @@ module _ (h : History) (d : Day) (st : Stands h d) (room : d.accepted < d.day_li
         (λ t. emptied h d.orders.rows st.orders answered i n o e takes found l (sym (eqb-true o.shares n t)))
         (λ t. lessened h d.orders.rows st.orders answered i n o e takes found l (λ m. eqb-false o.shares n t (sym m)))
 
-  at_hand : (b : Bool) (f : LedgerFault) (o : Order) (x : ℕ) → may_execute x d (cond b (Err f) (Ok o)) ≡ Ok tt → (b ≡ false) × (may_trade x o.symbol d ≡ Ok tt)
+  pub at_hand : (b : Bool) (f : LedgerFault) (o : Order) (x : ℕ) → may_execute x d (cond b (Err f) (Ok o)) ≡ Ok tt → (b ≡ false) × (may_trade x o.symbol d ≡ Ok tt)
   at_hand true f o x e = cc
   at_hand false f o x e = (refl, e)
 
@@ -119,7 +126,7 @@ module _ (h : History) (d : Day) (st : Stands h d) (room : d.accepted < d.day_li
       refl
       a.1
 
-  in_hand : (b : Bool) (f : LedgerFault) (o : Order) → may_cancel (cond b (Err f) (Ok o)) ≡ Ok tt → b ≡ false
+  pub in_hand : (b : Bool) (f : LedgerFault) (o : Order) → may_cancel (cond b (Err f) (Ok o)) ≡ Ok tt → b ≡ false
   in_hand true f o e = cc
   in_hand false f o e = refl
 
@@ -136,7 +143,7 @@ module _ (h : History) (d : Day) (st : Stands h d) (room : d.accepted < d.day_li
   after_trade e answered fits whole ok =
       after_fill (trades e) answered d.orders e (spare-stands h d.orders.rows st.orders answered (trades e) (spared-by-trade e)) (λ x. refl) refl (λ j. refl) fits whole ok
 
-  still_whole : (b : Bool) (f : LedgerFault) (e : Execution) → may_break (cond b (Err f) (Ok e)) ≡ Ok tt → b ≡ false
+  pub still_whole : (b : Bool) (f : LedgerFault) (e : Execution) → may_break (cond b (Err f) (Ok e)) ≡ Ok tt → b ≡ false
   still_whole true f e is = cc
   still_whole false f e is = refl
 

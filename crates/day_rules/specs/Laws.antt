@@ -15,7 +15,7 @@ use Rattle.day_rules.specs.Days.{Day}
 use Rattle.day_rules.specs.Log.{Log, Logged}
 use Rattle.day_rules.specs.Questions.{book_in, market_in}
 use Rattle.day_rules.specs.Rules.{order_in, execution_in, row_in, answer, next}
-use Rattle.day_rules.specs.Words.{History, history, last_add, since_add, clear_among, taken_off, shares_added, shares_taken, shares_cleared, times_broken, volume_of, value_of, logged_order, logged_execution, logged_row, all_traded}
+use Rattle.day_rules.specs.Words.{History, history, last_add, since_add, clear_among, taken_off, shares_added, shares_taken, shares_cleared, times_broken, volume_of, value_of, logged_order, logged_execution, logged_row, all_traded, IsLatestAnswer}
 
 -- What is asked after the log. A missing order or row counts as 0.
 
@@ -97,6 +97,10 @@ AcceptedAreCounted log d = d.accepted ≡ length (history log)
 abbrev pub ExecutionsHaveRows : Day → Type 0
 ExecutionsHaveRows d = (x : ℕ) (e : Execution) → execution_in x d ≡ Some e → holds symbol_key e.symbol d.symbols.rows ≡ true
 
+-- each accepted message is answered in words of the log up to it
+abbrev pub AnswersAddUp : Log → Type 0
+AnswersAddUp log = IsLatestAnswer (history log)
+
 -- All this holds of every log since a ledger's opening, and of the day that the ledger keeps after it.
 pub record LogLaws (log : Log) (d : Day) : Type 0 where
   pub shares_balance : SharesBalance log d
@@ -108,6 +112,7 @@ pub record LogLaws (log : Log) (d : Day) : Type 0 where
   pub rows_as_traded : RowsAsTraded log d
   pub market_adds_up : MarketAddsUp log d
   pub accepted_are_counted : AcceptedAreCounted log d
+  pub answers_add_up : AnswersAddUp log
   pub executions_have_rows : ExecutionsHaveRows d
 
 abbrev pub EveryLog : Type 0

@@ -1,4 +1,5 @@
 pub mod Days
+pub mod Due
 pub mod Events
 pub mod Faults
 pub mod Laws

@@ -1,5 +1,5 @@
 -- What is said of a log: its accepted messages, and the orders, executions and breaks among them. These speak of lines and answers alone, and of no ledger.
-use Rattle.std.specs.Prelude.{ℕ, ◌+◌, ◌-◌, ◌*◌, Bool, true, false, cond, ◌&&◌, ◌||◌, List, [], ◌∷◌, Some, None, Ok, Err, Option, Result, ◌==◌}
+use Rattle.std.specs.Prelude.{◌≡◌, ℕ, ◌+◌, ◌-◌, ◌*◌, Bool, true, false, cond, ◌&&◌, ◌||◌, List, [], ◌∷◌, Some, None, Ok, Err, Option, Result, ◌==◌}
 use Rattle.messages.specs.declared.fault.MessageFault.{MessageFault}
 use Rattle.messages.specs.declared.message.Message.{Message}
 use Rattle.messages.specs.Telling.{line_message}
@@ -198,3 +198,32 @@ logged_row symbol h = cond (row_needed symbol h) (Some (row_of symbol (volume_of
 -- the accepted, unbroken executions and trades of all symbols
 abbrev pub all_traded : History → List Execution
 all_traded h = those (λ e. times_broken e.id h == 0) (fills h)
+
+-- What an accepted message is answered, in words of the log that ends with it.
+
+-- no order is left: one goes, and no shares are left; or the order stays, with its shares
+abbrev pub IsWhatIsLeft : Outcome → Option Order → Type 0
+IsWhatIsLeft a None = (a.orders ≡ 1) × (a.shares ≡ 0)
+IsWhatIsLeft a (Some o) = (a.orders ≡ 0) × (a.shares ≡ o.shares)
+
+-- no order goes, and so many shares
+abbrev pub IsShares : Outcome → ℕ → Type 0
+IsShares a n = (a.orders ≡ 0) × (a.shares ≡ n)
+
+abbrev pub symbol_of : Option Execution → ℕ
+symbol_of None = 0
+symbol_of (Some e) = e.symbol
+
+-- an add its own shares; an execution or a cancel what is left of the order; a trade or a break the symbol's volume; a clear all shares of the symbol that were left
+abbrev pub IsAnswer : Event → Outcome → History → Type 0
+IsAnswer (clears s) a h = shares_added s h ≡ shares_taken s h + shares_cleared s h
+IsAnswer (adds o) a h = IsShares a o.shares
+IsAnswer (executes order shares execution) a h = IsWhatIsLeft a (logged_order order h)
+IsAnswer (cancels order shares) a h = IsWhatIsLeft a (logged_order order h)
+IsAnswer (trades e) a h = IsShares a (volume_of e.symbol h)
+IsAnswer (breaks x) a h = IsShares a (volume_of (symbol_of (fill_with x (fills h))) h)
+
+-- of the latest accepted message
+abbrev pub IsLatestAnswer : History → Type 0
+IsLatestAnswer [] = Unit {0}
+IsLatestAnswer (a ∷ h) = IsAnswer a.event a.outcome (a ∷ h)
