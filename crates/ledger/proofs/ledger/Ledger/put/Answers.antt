@@ -1,6 +1,7 @@
 use Rattle.std.proofs.Common.{◌∷◌}
 use Rattle.day_rules.specs.Laws.{LogLaws}
 use Rattle.day_rules.specs.Log.{Log, Logged, line_put}
+use Rattle.day_rules.proofs.Judged.{refused-when-due}
 use Rattle.ledger.proofs.Adding.{after_line, refusal_keeps}
 use Rattle.ledger.proofs.ledger.Ledger.put.Goals as goal
 
@@ -11,10 +12,12 @@ returns g c =
     record {
       says = took.says;
       leaves = took.leaves;
+      due = λ n d. rw took.says (refused-when-due c.args.line.now c.args.self.now n d);
       refused = refusal_keeps c.args.line.now c.args.self.now c.take_line.new.self c.take_line.result took.says took.leaves;
       logged = λ log h. (c.args.self.now, h, took.says, took.leaves);
       shares_balance = λ log h. (laws log h).shares_balance;
       orders_add_up = λ log h. (laws log h).orders_add_up;
       turnover_adds_up = λ log h. (laws log h).turnover_adds_up;
+      answers_add_up = λ log h. (laws log h).answers_add_up;
       none_broken_twice = λ log h. (laws log h).none_broken_twice;
     }
