@@ -12,8 +12,9 @@ use Rattle.book.specs.declared.turnover.Turnover.{Turnover}
 use Rattle.day_rules.specs.declared.fault.StoreName.{StoreName}
 use Rattle.day_rules.specs.declared.fault.StoreName.TheVariants.{Order, Execution, Symbol}
 use Rattle.day_rules.specs.declared.fault.LedgerFault.{LedgerFault}
-use Rattle.day_rules.specs.declared.fault.LedgerFault.TheVariants.{Message, Resting, Absent, Excess, Repeated, Unmatched, Broken, Full, Closed}
+use Rattle.day_rules.specs.declared.fault.LedgerFault.TheVariants.{Message, Full}
 use Rattle.day_rules.specs.declared.outcome.Outcome.{Outcome}
+use Rattle.day_rules.specs.Faults.{refusal_number}
 
 -- orders taken off the book, and shares
 abbrev pub outcome_text : Outcome → List ℕ
@@ -24,17 +25,11 @@ store_word Order = codes "order"
 store_word Execution = codes "execution"
 store_word Symbol = codes "symbol"
 
--- a line's refusal as that of its reader
+-- a refusal's number, and what it carries; a line's refusal as that of its reader
 abbrev pub refusal_text : LedgerFault → List ℕ
 refusal_text (Message fault) = fault_text fault
-refusal_text Resting = refused 6
-refusal_text Absent = refused 7
-refusal_text Excess = refused 8
-refusal_text Repeated = refused 9
-refusal_text Unmatched = refused 10
-refusal_text Broken = refused 11
-refusal_text (Full kept) = refused_with 12 (store_word kept)
-refusal_text Closed = refused 13
+refusal_text (Full name) = refused_with (refusal_number (Full name)) (store_word name)
+refusal_text fault = refused (refusal_number fault)
 
 abbrev pub answer_text : Result Outcome LedgerFault → List ℕ
 answer_text (Ok outcome) = outcome_text outcome

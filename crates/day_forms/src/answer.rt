@@ -2,7 +2,7 @@
 ghost use Rattle.std.specs.Prelude.{◌≡◌, Some};
 ghost use Rattle.day_forms.specs.Texts.{store_word, outcome_text, refusal_text, answer_text};
 
-use day_rules::fault::{StoreName, LedgerFault};
+use day_rules::fault::{LedgerFault, StoreName};
 use day_rules::outcome::Outcome;
 use forms::refusal::Refusal;
 use std::fmt;

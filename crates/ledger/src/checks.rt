@@ -4,7 +4,7 @@ ghost use Rattle.day_rules.specs.Rules.{order_in, execution_in, lacks_row, may_r
 
 use crate::ledger::Ledger;
 use crate::rows::is_full;
-use day_rules::fault::{StoreName, LedgerFault};
+use day_rules::fault::{LedgerFault, StoreName};
 use records::execution::Execution;
 use records::order::Order;
 use records::symbol_row::SymbolRow;
