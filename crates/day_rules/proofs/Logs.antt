@@ -1,5 +1,5 @@
 -- Every log adds up, as what it stands for does.
-use Rattle.std.proofs.Common.{◌≡◌, ℕ, ◌≤◌, true, eqb, leb, List, [], ◌∷◌, Some, None, Ok, Err, Option, Result, refl, sym, ap, ◌∙◌, ⊎_elim, arith}
+use Rattle.std.proofs.Common.{◌≡◌, ℕ, ◌≤◌, Bool, true, length, eqb, leb, List, [], ◌∷◌, Some, None, Ok, Err, Option, Result, refl, sym, ap, ◌∙◌, ⊎_elim, arith}
 use Rattle.std.proofs.lemmas.Bool.{cases_Bool, eqb-true, leb-false}
 use Rattle.std.proofs.lemmas.Bool.Decides.{nat_tests}
 use Rattle.messages.specs.declared.fault.MessageFault.{MessageFault}
@@ -9,7 +9,7 @@ use Rattle.records.specs.declared.order.Order.{Order}
 use Rattle.records.specs.declared.execution.Execution.{Execution}
 use Rattle.records.specs.declared.symbol_row.SymbolRow.{SymbolRow}
 use Rattle.records.specs.Keys.{order_key, execution_key, row_worth}
-use Rattle.store.specs.Lists.{lookup}
+use Rattle.store.specs.Lists.{lookup, those}
 use Rattle.store.proofs.Ruling.{found-each}
 use Rattle.book.specs.Books.{sum}
 use Rattle.day_rules.specs.declared.fault.LedgerFault.{LedgerFault}
@@ -126,6 +126,11 @@ logged_follows [] d l = (opened d l, tt)
 logged_follows (line_put line answered ∷ log) d l = rw (l.2, l.3) (line_follows line log l.0 (logged_follows log l.0 l.1))
 logged_follows (question_put q replied ∷ log) d l = logged_follows log d l.0
 
+-- a test picks no more than there are
+picked : {X : Type 0} (p : X → Bool) (xs : List X) → length (those p xs) ≤ length xs
+picked p [] = omega arith
+picked p (x ∷ xs) = grind (arith, nat_tests, picked p xs)
+
 pub every_log : EveryLog
 unfolding IsBalanced IsLeft logged_order logged_row
 every_log log d l =
@@ -145,6 +150,7 @@ every_log log d l =
       rows_as_traded = λ s. st.rows.each s ∙ rw (row_by_log (history log) d st s) refl;
       market_adds_up = market (history log) d st;
       accepted_are_counted = st.count;
+      orders_are_counted = λ p. let n = few (history log) d st _ os.count in let l = picked p d.orders.rows in omega arith;
       answers_add_up = all.1;
       executions_have_rows = λ x e is.
           let needed = found-each execution_key (λ f. row_needed f.symbol (history log) ≡ true) x d.executions.rows e st.rows.needed is in

@@ -1,5 +1,5 @@
 -- What a log adds up to.
-use Rattle.std.specs.Prelude.{◌≡◌, ℕ, ◌+◌, ◌*◌, ◌≤◌, true, false, List, length, Some, None, Err, Option}
+use Rattle.std.specs.Prelude.{◌≡◌, ℕ, ◌+◌, ◌*◌, ◌≤◌, Bool, true, false, List, length, Some, None, Err, Option}
 use Rattle.messages.specs.declared.code.Side.{Side}
 use Rattle.messages.specs.declared.code.Side.TheVariants.{Buy, Sell}
 use Rattle.records.specs.declared.order.Order.{Order}
@@ -8,8 +8,8 @@ use Rattle.records.specs.declared.execution.Execution.{Execution}
 use Rattle.records.specs.Keys.{row_worth, symbol_key}
 use Rattle.records.specs.Values.{worth}
 use Rattle.book.specs.declared.turnover.Turnover.{Turnover}
-use Rattle.store.specs.Lists.{holds}
-use Rattle.book.specs.Books.{sum}
+use Rattle.store.specs.Lists.{holds, those}
+use Rattle.book.specs.Books.{sum, depth_of}
 use Rattle.day_rules.specs.declared.fault.LedgerFault.{LedgerFault}
 use Rattle.day_rules.specs.Days.{Day}
 use Rattle.day_rules.specs.Log.{Log, Logged}
@@ -97,6 +97,10 @@ AcceptedAreCounted log d = d.accepted ≡ length (history log)
 abbrev pub ExecutionsHaveRows : Day → Type 0
 ExecutionsHaveRows d = (x : ℕ) (e : Execution) → execution_in x d ≡ Some e → holds symbol_key e.symbol d.symbols.rows ≡ true
 
+-- no number of orders stops at the greatest, whatever orders are counted: those of a book, or those that a clear takes off
+abbrev pub OrdersAreCounted : Day → Type 0
+OrdersAreCounted d = (p : Order → Bool) → (depth_of (those p d.orders.rows)).orders.number ≡ length (those p d.orders.rows)
+
 -- each accepted message is answered in words of the log up to it
 abbrev pub AnswersAddUp : Log → Type 0
 AnswersAddUp log = IsLatestAnswer (history log)
@@ -112,6 +116,7 @@ pub record LogLaws (log : Log) (d : Day) : Type 0 where
   pub rows_as_traded : RowsAsTraded log d
   pub market_adds_up : MarketAddsUp log d
   pub accepted_are_counted : AcceptedAreCounted log d
+  pub orders_are_counted : OrdersAreCounted d
   pub answers_add_up : AnswersAddUp log
   pub executions_have_rows : ExecutionsHaveRows d
 

@@ -5,6 +5,8 @@ use Rattle.messages.specs.declared.code.Side.TheVariants.{Buy, Sell}
 use Rattle.records.specs.declared.order.Order.{Order}
 use Rattle.records.specs.declared.execution.Execution.{Execution}
 use Rattle.records.specs.declared.symbol_row.SymbolRow.{SymbolRow}
+use Rattle.store.specs.Lists.{those}
+use Rattle.book.specs.Books.{rests_on}
 use Rattle.book.specs.declared.book.Book.{Book}
 use Rattle.book.specs.declared.turnover.Turnover.{Turnover}
 use Rattle.day_rules.specs.declared.fault.LedgerFault.{LedgerFault}
@@ -31,6 +33,9 @@ pub book_balances : (log : Log) (d : Day) (symbol : ℕ) (side : Side) (r : Book
 unfolding IsBalanced
 book_balances log d symbol Buy r h e = rw e ((every_log log d h).shares_balance symbol)
 book_balances log d symbol Sell r h e = rw e (let b = (every_log log d h).shares_balance symbol in omega arith)
+
+pub book_counts : (log : Log) (d : Day) (symbol : ℕ) (side : Side) (r : Book) → Logged log d → r ≡ book_in symbol side d → r.depth.orders.number ≡ length (those (rests_on symbol side) d.orders.rows)
+book_counts log d symbol side r h e = rw e ((every_log log d h).orders_are_counted (rests_on symbol side))
 
 pub order_told : (log : Log) (d : Day) (id : ℕ) (r : Option Order) → Logged log d → r ≡ order_in id d → r ≡ logged_order id (history log)
 order_told log d id r h e = e ∙ (every_log log d h).orders_as_added id

@@ -61,10 +61,11 @@ impl<O: Store<Order>, E: Store<Execution>, S: Store<SymbolRow>> Ledger<O, E, S> 
     }
 
     // What rests of a symbol on a side. With what rests on the other side, its shares are what the log's add up to.
-    #[tactic(auto, using(crate::proofs::Adding::book_balances))]
+    #[tactic(auto, using(crate::proofs::Adding::book_balances, crate::proofs::Adding::book_counts))]
     pub fn book(&self, symbol: u64, side: Side) -> Book
         ensures says { result ≡ book_in symbol side self.now }
         ensures best { IsBest side (map (λ o. o.price) (those (rests_on symbol side) self.now.orders.rows)) result.best }
+        ensures counts { (log : Log) → Logged log self.now → result.depth.orders.number ≡ length (those (rests_on symbol side) self.now.orders.rows) }
         ensures logged { (log : Log) → Logged log self.now → Logged (question_put (question.book symbol side) result ∷ log) self.now }
         ensures balance { (log : Log) → Logged log self.now → IsBalanced (history log) symbol (result.depth.shares.number + (book_in symbol (other_side side) self.now).depth.shares.number) }
     {
