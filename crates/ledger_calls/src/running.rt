@@ -50,7 +50,13 @@ fn serve<R: BufRead, W: Write>(
     answer_lines(&mut ledger, count, input, output)
 }
 
-fn answer_lines<R: BufRead, W: Write, O: Store<Order>, E: Store<Execution>, S: Store<SymbolRow>>(
+pub(crate) fn answer_lines<
+    R: BufRead,
+    W: Write,
+    O: Store<Order>,
+    E: Store<Execution>,
+    S: Store<SymbolRow>,
+>(
     ledger: &mut Ledger<O, E, S>,
     mut count: LineCount,
     input: &mut R,

@@ -1,5 +1,9 @@
 // What a ledger may easily get wrong, and an input whose first line opens none.
-use crate::running::run;
+use crate::running::{answer_lines, run};
+use capture::count::LineCount;
+use front_row::front_row::FrontRow;
+use hashed_store::hashed::HashedStore;
+use ledger::ledger::Ledger;
 use std::alloc::Global;
 use std::process::Abort;
 use std::test::Fail;
@@ -61,4 +65,26 @@ fn nothing_is_answered_without_a_ledger(rt: HostRuntime) -> Result<(), Fail> {
         b"ledger 65 1 1 9\n?market\n",
         b"(line 1 (no ledger))\n",
     )
+}
+
+// The sample day over hashed stores, the orders' with a front row before it: what the row stores of the other tests answer.
+#[test]
+fn other_stores_answer_alike(rt: HostRuntime) -> Result<(), Fail> {
+    let mut orders = [None; 3];
+    let mut executions = [None; 5];
+    let mut symbols = [None; 2];
+    let mut ledger = Ledger::open(
+        FrontRow::new(HashedStore::new(&mut orders)),
+        HashedStore::new(&mut executions),
+        HashedStore::new(&mut symbols),
+        9,
+    );
+    let mut input: &[u8] =
+        b"28800000sABCD    \n34200000A0000000000A1B000500ABCD  0000102500Y\n34200010E0000000000A1000200000000000001\n34200020X0000000000A1000300\n34200020A0000000000A1B000300ABCD  0000105000Y\n34200025E0000000000A1000100000000000002\n34200030B000000000001\n34200030B000000000001\n?row ABCD\n?book ABCD B\n";
+    let mut output = Vec::new(rt.alloc());
+    answer_lines(&mut ledger, LineCount::new(), &mut input, &mut output)?;
+    let expected =
+        b"(line 1 (took 0 0))\n(line 2 (took 0 500))\n(line 3 (took 0 300))\n(line 4 (took 1 0))\n(line 5 (took 0 300))\n(line 6 (took 0 200))\n(line 7 (took 0 100))\n(line 8 (refused 11))\n(line 9 (symbol ABCD (volume 100) (value 0 10500000)))\n(line 10 (book (orders 1) (shares 200) (best 105000)))\n";
+    assert!(rt; output.as_slice() == &expected[..]);
+    Ok(())
 }
