@@ -1,2 +1,3 @@
 mod Gathering
+mod Reading
 mod Splitting

@@ -1,3 +1,4 @@
 pub mod Counts
 pub mod Held
+pub mod Lines
 pub mod Splits
