@@ -1,1 +1,2 @@
+pub mod Texts
 pub mod Walks
