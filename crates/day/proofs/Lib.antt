@@ -1,2 +1,3 @@
 mod Printing
+mod Rising
 mod Walking

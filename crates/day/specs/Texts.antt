@@ -1,5 +1,5 @@
 -- What the program prints for an input.
-use Rattle.std.specs.Prelude.{ℕ, ◌+◌, List, [], ◌∷◌, ◌++◌, codes, decimal}
+use Rattle.std.specs.Prelude.{ℕ, List, [], ◌∷◌, ◌++◌, codes, decimal}
 use Rattle.capture.specs.Counts.{more}
 use Rattle.capture.specs.Lines.{lines_of}
 use Rattle.records.specs.declared.symbol_row.SymbolRow.{SymbolRow}
@@ -26,10 +26,14 @@ abbrev pub rows_text : List SymbolRow → List ℕ
 rows_text [] = []
 rows_text (row ∷ rows) = (row_text row ++ (10 ∷ [])) ++ rows_text rows
 
--- the day before the first line: 64 orders, 64 executions and 16 rows are held at most, and the day limit is the greatest
-abbrev pub opened : Day
-opened = record { orders = record { rows = []; limit = 64 }; executions = record { rows = []; limit = 64 }; symbols = record { rows = []; limit = 16 }; day_limit = greatest_limit; accepted = 0 }
+-- each line's number and what it is answered, and then the rows that the day has after them, by rising symbol number
+abbrev pub text_from : Day → List ℕ → List ℕ
+text_from d input = answers_text 0 (lines_of input) d ++ rows_text (day_after (lines_of input) d).symbols.rows
 
--- each line's number and what it is answered, and then the rows of the day by rising symbol number
+-- the day before the first line, where so many orders, executions and rows are held at most; the day limit is the greatest
+abbrev pub opened : (orders executions symbols : ℕ) → Day
+opened o e s = record { orders = record { rows = []; limit = o }; executions = record { rows = []; limit = e }; symbols = record { rows = []; limit = s }; day_limit = greatest_limit; accepted = 0 }
+
+-- all that the program prints
 abbrev pub day_text : List ℕ → List ℕ
-day_text input = answers_text 0 (lines_of input) opened ++ rows_text (day_after (lines_of input) opened).symbols.rows
+day_text input = text_from (opened 64 64 16) input

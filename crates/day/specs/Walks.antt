@@ -1,9 +1,11 @@
 -- Going through the rows by rising symbol number.
-use Rattle.std.specs.Prelude.{ℕ, ◌+◌, ◌-◌, ◌^◌, cond, List, [], ◌∷◌, Some, None, Option, nat_lt, nat_le}
+use Rattle.std.specs.Prelude.{ℕ, ◌+◌, ◌^◌, cond, List, [], ◌∷◌, ◌++◌, Some, None, Option, nat_lt, nat_le}
+use Rattle.capture.specs.Lines.{lines_of}
 use Rattle.records.specs.declared.symbol_row.SymbolRow.{SymbolRow}
 use Rattle.records.specs.Keys.{symbol_key}
 use Rattle.day_rules.specs.Days.{Day}
 use Rattle.day_rules.specs.Questions.{row_from_in}
+use Rattle.day.specs.Texts.{answers_text, day_after, rows_text}
 
 -- the number above one, unless that is the greatest
 abbrev pub above : ℕ → Option ℕ
@@ -23,3 +25,7 @@ rows_met symbol (row ∷ rows) = cond (nat_le symbol (symbol_key row)) (row ∷ 
 abbrev pub rows_from : Option ℕ → List SymbolRow → List SymbolRow
 rows_from None rows = []
 rows_from (Some symbol) rows = rows_met symbol rows
+
+-- each line's number and what it is answered, from a day on, and then the rows that are met
+abbrev pub printed_of : Day → List ℕ → List ℕ
+printed_of d input = answers_text 0 (lines_of input) d ++ rows_text (rows_met 0 (day_after (lines_of input) d).symbols.rows)

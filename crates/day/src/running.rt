@@ -1,4 +1,9 @@
 // From the first line to the last row.
+ghost use Rattle.std.specs.Prelude.{◌≡◌, length, IfSome, OnOk};
+ghost use Rattle.std.specs.Io.KnownBytes.{Appends};
+ghost use Rattle.day.specs.Texts.{text_from, opened, day_text};
+ghost use Rattle.day.specs.Walks.{printed_of};
+
 use crate::rows::show_rows;
 use crate::taking::take_lines;
 use ledger::ledger::Ledger;
@@ -9,6 +14,7 @@ use records::symbol_row::SymbolRow;
 use row_store::row::RowStore;
 use std::io;
 use std::io::{BufRead, Write};
+use store::store::Store;
 
 // So many are held at most.
 const ORDERS: usize = 64;
@@ -17,18 +23,42 @@ const EXECUTIONS: usize = 64;
 
 const SYMBOLS: usize = 16;
 
-// Keeps the day of an input, over memory of its own.
-pub fn run<R: BufRead, W: Write>(input: &mut R, output: &mut W) -> io::Result<()> {
+// Keeps the day of an input, over memory of its own, and prints what is said of it and nothing else.
+pub fn run<R: BufRead, W: Write>(input: &mut R, output: &mut W) -> io::Result<()>
+    ensures { OnOk result (IfSome (R.remaining input.old) (λ bytes. Appends (W.contents output.old) (W.contents output.new) (day_text bytes))) }
+{
     let mut orders = [Order::BLANK; ORDERS];
     let mut executions = [Execution::BLANK; EXECUTIONS];
     let mut symbols = [SymbolRow::BLANK; SYMBOLS];
+    run_over(&mut orders, &mut executions, &mut symbols, input, output)
+}
+
+fn run_over<R: BufRead, W: Write>(
+    orders: &mut [Order],
+    executions: &mut [Execution],
+    symbols: &mut [SymbolRow],
+    input: &mut R,
+    output: &mut W,
+) -> io::Result<()>
+    ensures { OnOk result (IfSome (R.remaining input.old) (λ bytes. Appends (W.contents output.old) (W.contents output.new) (text_from (opened (length orders.old) (length executions.old) (length symbols.old)) bytes))) }
+{
     let mut ledger = Ledger::open(
-        RowStore::new(&mut orders),
-        RowStore::new(&mut executions),
-        RowStore::new(&mut symbols),
+        RowStore::new(orders),
+        RowStore::new(executions),
+        RowStore::new(symbols),
         GREATEST_LIMIT,
     );
-    take_lines(&mut ledger, input, output)?;
-    show_rows(&ledger, output)?;
+    print(&mut ledger, input, output)
+}
+
+fn print<R: BufRead, W: Write, O: Store<Order>, E: Store<Execution>, S: Store<SymbolRow>>(
+    ledger: &mut Ledger<O, E, S>,
+    input: &mut R,
+    output: &mut W,
+) -> io::Result<()>
+    ensures { OnOk result (IfSome (R.remaining input.old) (λ bytes. Appends (W.contents output.old) (W.contents output.new) (printed_of ledger.old bytes))) }
+{
+    take_lines(ledger, input, output)?;
+    show_rows(ledger, output)?;
     output.flush()
 }

@@ -43,7 +43,11 @@ pub fn take_lines<R: BufRead, W: Write, O: Store<Order>, E: Store<Execution>, S:
     Err(ErrorKind::TimedOut.into())
 }
 
-fn show<W: Write>(number: u64, answer: &Result<Outcome, LedgerFault>, output: &mut W) -> io::Result<()>
+fn show<W: Write>(
+    number: u64,
+    answer: &Result<Outcome, LedgerFault>,
+    output: &mut W,
+) -> io::Result<()>
     ensures { OnOk result (Appends (W.contents output.old) (W.contents output.new) (answered_line number (answer_text answer.now))) }
 {
     let form = &Answered(answer);

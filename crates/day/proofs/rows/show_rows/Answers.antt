@@ -1,5 +1,4 @@
-use Rattle.std.proofs.Common.{◌≡◌, ◌∷◌, length, sym, ap, ◌∙◌, arith}
-use Rattle.day.specs.Walks.{rows_from}
+use Rattle.std.proofs.Common.{length, sym, ap, ◌∙◌, arith}
 use Rattle.day.proofs.Walking.{met-next, met-end, showing-on, showing-ends}
 use Rattle.day.proofs.rows.show_rows.Goals as goal
 

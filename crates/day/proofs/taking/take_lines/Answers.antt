@@ -1,13 +1,12 @@
-use Rattle.std.proofs.Common.{◌≡◌, [], IfSome, MatchOption, Some, ◌∷◌, sym, ap, subst, ◌∙◌, rules}
+use Rattle.std.proofs.Common.{◌≡◌, [], IfSome, MatchOption, ◌∷◌, sym, ap, subst, rules}
 use Rattle.std.specs.Io.BufRead.{drop_through}
 use Rattle.std.specs.Io.KnownBytes.{Appends}
 use Rattle.capture.specs.Held.{held}
 use Rattle.capture.specs.Lines.{lines_of}
 use Rattle.capture.specs.Counts.{more}
-use Rattle.day_rules.specs.Rules.{answer, next}
 use Rattle.day_forms.specs.Texts.{answer_text}
 use Rattle.day.specs.Texts.{answered_line}
-use Rattle.day.proofs.Printing.{Putting, known-weaker, known-at, putting-starts, putting-on, putting-ends}
+use Rattle.day.proofs.Printing.{Putting, known-weaker, known-at, putting-starts, putting-on}
 use Rattle.day.proofs.taking.take_lines.Goals as goal
 
 pub loop-init : goal.loop-init
