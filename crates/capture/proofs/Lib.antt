@@ -1,3 +1,3 @@
 mod Gathering
-mod Reading
+pub mod Reading
 mod Splitting

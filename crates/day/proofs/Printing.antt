@@ -21,13 +21,6 @@ pub record Putting (coming was is : Option (List ℕ)) (bytes : List ℕ) (count
   pub text : printed ++ answers_text count (lines_of rest) now ≡ answers_text 0 (lines_of bytes) first
   pub day : day_after (lines_of rest) now ≡ day_after (lines_of bytes) first
 
-pub known-weaker : (o : Option (List ℕ)) (P Q : List ℕ → Type 0) → ((xs : List ℕ) → P xs → Q xs) → IfSome o P → IfSome o Q
-known-weaker None P Q f h = h
-known-weaker (Some xs) P Q f h = f xs h
-
-pub known-at : (o : Option (List ℕ)) (xs : List ℕ) (P : List ℕ → Type 0) → o ≡ Some xs → IfSome o P → P xs
-known-at o xs P e = subst (λ q. IfSome q P) e
-
 pub putting-starts : (coming was : Option (List ℕ)) (count : ℕ) (first : Day) → count ≡ 0 → IfSome coming (λ bytes. Putting coming was was bytes count first first)
 putting-starts None was count first e = tt
 putting-starts (Some xs) was count first e =

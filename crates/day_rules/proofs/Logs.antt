@@ -121,7 +121,7 @@ module _ (line : List ℕ) (log : Log) (d : Day) (before : Follows (history log)
   unfolding answer next
   line_follows = by_line (line_message line) refl
 
-logged_follows : (log : Log) (d : Day) → Logged log d → Follows (history log) d
+pub logged_follows : (log : Log) (d : Day) → Logged log d → Follows (history log) d
 logged_follows [] d l = (opened d l, tt)
 logged_follows (line_put line answered ∷ log) d l = rw (l.2, l.3) (line_follows line log l.0 (logged_follows log l.0 l.1))
 logged_follows (question_put q replied ∷ log) d l = logged_follows log d l.0

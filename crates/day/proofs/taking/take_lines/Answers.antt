@@ -6,7 +6,8 @@ use Rattle.capture.specs.Lines.{lines_of}
 use Rattle.capture.specs.Counts.{more}
 use Rattle.day_forms.specs.Texts.{answer_text}
 use Rattle.day.specs.Texts.{answered_line}
-use Rattle.day.proofs.Printing.{Putting, known-weaker, known-at, putting-starts, putting-on}
+use Rattle.capture.proofs.Reading.{known-weaker, known-at}
+use Rattle.day.proofs.Printing.{Putting, putting-starts, putting-on}
 use Rattle.day.proofs.taking.take_lines.Goals as goal
 
 pub loop-init : goal.loop-init
