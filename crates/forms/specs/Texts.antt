@@ -5,6 +5,7 @@ use Rattle.layout.specs.declared.fault.FieldFault.TheVariants.{Byte, Range}
 use Rattle.messages.specs.Layouts.{identifier, long_symbol}
 use Rattle.messages.specs.declared.fault.MessageFault.{MessageFault}
 use Rattle.messages.specs.declared.fault.MessageFault.TheVariants.{Cut, Unknown, Length, Field, Buffer}
+use Rattle.messages.specs.Faults.{number_of}
 
 -- a byte before a text, which a space before none is not
 abbrev pub before_text : ℕ → List ℕ → List ℕ
@@ -37,9 +38,9 @@ abbrev pub spot_text : (letter offset : ℕ) → List ℕ
 spot_text letter offset = encode_utf8 letter ++ (codes " " ++ decimal offset)
 
 abbrev pub fault_text : MessageFault → List ℕ
-fault_text Cut = refused 1
-fault_text (Unknown byte) = refused_with 2 (decimal byte)
-fault_text (Length letter) = refused_with 3 (encode_utf8 letter)
-fault_text (Field (Byte spot)) = refused_with 4 (spot_text spot.letter spot.offset)
-fault_text (Field (Range spot)) = refused_with 5 (spot_text spot.letter spot.offset)
-fault_text Buffer = refused 14
+fault_text Cut = refused (number_of Cut)
+fault_text (Unknown byte) = refused_with (number_of (Unknown byte)) (decimal byte)
+fault_text (Length letter) = refused_with (number_of (Length letter)) (encode_utf8 letter)
+fault_text (Field (Byte spot)) = refused_with (number_of (Field (Byte spot))) (spot_text spot.letter spot.offset)
+fault_text (Field (Range spot)) = refused_with (number_of (Field (Range spot))) (spot_text spot.letter spot.offset)
+fault_text Buffer = refused (number_of Buffer)
