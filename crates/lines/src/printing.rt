@@ -2,7 +2,7 @@
 ghost use Rattle.std.specs.Prelude.{◌≡◌, []};
 ghost use Rattle.capture.specs.Held.{held};
 ghost use Rattle.messages.specs.Refusals.{LaidOut};
-ghost use Rattle.lines.specs.Counts.{more};
+ghost use Rattle.capture.specs.Counts.{more};
 ghost use Rattle.lines.specs.Evens.{Even};
 
 use crate::rewriting::comes_back;

@@ -1,6 +1,6 @@
 // What is counted.
 ghost use Rattle.std.specs.Prelude.{◌≡◌, if◌then◌else◌};
-ghost use Rattle.lines.specs.Counts.{more};
+ghost use Rattle.capture.specs.Counts.{more};
 
 use std::fmt;
 
