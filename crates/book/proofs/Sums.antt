@@ -1,6 +1,5 @@
 -- What the tallies come to over a list.
-use Rattle.std.proofs.Common.{◌≡◌, ℕ, suc, ◌+◌, Bool, cond, List, [], ◌∷◌, map, length, Some, None, refl, ap, ◌∙◌, arith, ⊎_elim}
-use Rattle.std.proofs.lemmas.Bool.{cases_Bool}
+use Rattle.std.proofs.Common.{◌≡◌, ℕ, suc, ◌+◌, Bool, cond, List, [], ◌∷◌, map, length, Some, None, refl, ap, ◌∙◌, arith}
 use Rattle.messages.specs.declared.code.Side.{Side}
 use Rattle.tally.proofs.Pairing.{both-joined}
 use Rattle.tally.specs.declared.both.Both.{Both}
@@ -8,7 +7,8 @@ use Rattle.tally.specs.Joining.{joined_all}
 use Rattle.tally.specs.Pairs.{pairwise}
 use Rattle.tally.specs.Totals.{total_of, together}
 use Rattle.tally.specs.TotalsLemmas.{same_total, neutral}
-use Rattle.store.specs.Lists.{those}
+use Rattle.store.proofs.Picking.{picked-joined}
+use Rattle.store.specs.Lists.{those, sum}
 use Rattle.records.specs.declared.order.Order.{Order}
 use Rattle.records.specs.declared.symbol_row.SymbolRow.{SymbolRow}
 use Rattle.records.specs.Keys.{row_worth}
@@ -18,21 +18,13 @@ use Rattle.records.specs.ValuesLemmas.{same_parts, joined-valued}
 use Rattle.book.specs.declared.best.Best.{Best}
 use Rattle.book.specs.declared.depth.Depth.{Depth}
 use Rattle.book.specs.declared.turnover.Turnover.{Turnover}
-use Rattle.book.specs.Books.{sum, better_of, best_of, depth_of, turnover_of}
+use Rattle.book.specs.Books.{better_of, best_of, depth_of, turnover_of}
 
 totals-stop : (m n : ℕ) → together (total_of m) (total_of n) ≡ total_of (m + n)
 totals-stop m n = same_total _ _ (omega arith)
 
 one-more : (n : ℕ) → together (total_of 1) (total_of n) ≡ total_of (suc n)
 one-more n = same_total _ _ (omega arith)
-
--- the records that give nothing may be left out
-where-joined : {X M : Type 0} (p : X → Bool) (given : X → M) (none : M) (joining : M → M → M) → ((x : M) → joining none x ≡ x) → (xs : List X)
-    → joined_all none joining (map (λ x. cond (p x) (given x) none) xs) ≡ joined_all none joining (map given (those p xs))
-where-joined p given none joining neutral [] = refl
-where-joined p given none joining neutral (x ∷ xs) =
-    let h = where-joined p given none joining neutral xs in
-    ⊎_elim (λ e. rw e (ap (joining (given x)) h)) (λ e. rw e (neutral _ ∙ h)) (cases_Bool (p x))
 
 -- the tally of depths
 abbrev depth_with : Depth → Depth → Depth
@@ -89,7 +81,7 @@ module _ {B : ℕ} (side : Side) where
 
   pub book-joined : (p : Order → Bool) (os : List Order) → joined_all both_none (pairwise depth_with best_with) (map (λ o. cond (p o) (both_given o) both_none) os) ≡ record { first = depth_of (those p os); second = record { price = best_of side (those p os) } }
   book-joined p os =
-      where-joined p both_given both_none (pairwise depth_with best_with) (λ x i. record { first = record { orders = neutral x.first.orders i; shares = neutral x.first.shares i }; second = x.second }) os
+      picked-joined p both_given both_none (pairwise depth_with best_with) (λ x i. record { first = record { orders = neutral x.first.orders i; shares = neutral x.first.shares i }; second = x.second }) os
       ∙ both-joined (depth_of []) depth_with depth_given best_none best_with best_given (those p os)
       ∙ (λ i. record { first = depth-joined (those p os) i; second = best-joined (those p os) i })
 

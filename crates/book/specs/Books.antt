@@ -1,9 +1,9 @@
 -- What rests and what has traded, said of lists of records.
-use Rattle.std.specs.Prelude.{◌≡◌, ℕ, ◌+◌, ◌≤◌, max, min, Bool, true, false, cond, List, [], ◌∷◌, length, Some, None, Option, ◌==◌, ◌⊎◌}
+use Rattle.std.specs.Prelude.{◌≡◌, ℕ, ◌≤◌, max, min, Bool, true, false, cond, List, [], ◌∷◌, length, Some, None, Option, ◌==◌, ◌⊎◌}
 use Rattle.messages.specs.declared.code.Side.{Side}
 use Rattle.messages.specs.declared.code.Side.TheVariants.{Buy, Sell}
 use Rattle.tally.specs.Totals.{total_of}
-use Rattle.store.specs.Lists.{Each, those}
+use Rattle.store.specs.Lists.{Each, those, sum}
 use Rattle.records.specs.declared.order.Order.{Order}
 use Rattle.records.specs.declared.symbol_row.SymbolRow.{SymbolRow}
 use Rattle.records.specs.Keys.{row_worth}
@@ -11,11 +11,6 @@ use Rattle.records.specs.Values.{valued}
 use Rattle.book.specs.declared.book.Book.{Book}
 use Rattle.book.specs.declared.depth.Depth.{Depth}
 use Rattle.book.specs.declared.turnover.Turnover.{Turnover}
-
--- what f gives of each, added up
-abbrev pub sum : {X : Type 0} → (X → ℕ) → List X → ℕ
-sum f [] = 0
-sum f (x ∷ xs) = f x + sum f xs
 
 -- the order is of that symbol
 abbrev pub is_of : ℕ → Order → Bool

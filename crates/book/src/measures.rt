@@ -1,5 +1,5 @@
 // What orders and rows give.
-ghost use Rattle.std.specs.Prelude.{◌≡◌, cond, Some};
+ghost use Rattle.std.specs.Prelude.{◌≡◌, Some};
 ghost use Rattle.tally.specs.Totals.{total_of};
 ghost use Rattle.records.specs.Keys.{row_worth};
 ghost use Rattle.records.specs.Values.{valued};
@@ -10,9 +10,7 @@ use crate::turnover::Turnover;
 use records::order::Order;
 use records::symbol_row::SymbolRow;
 use records::value::Value;
-use store::pick::Pick;
 use tally::measure::Measure;
-use tally::tally::Tally;
 use tally::total::Total;
 
 // The depth of one order: itself, and its shares.
@@ -70,25 +68,4 @@ fn value_of(row: &SymbolRow) -> Value
     ensures { result ≡ valued (row_worth row.now) }
 {
     row.value()
-}
-
-// What a measure gives of the records that a test picks; the others give nothing.
-#[derive(Clone, Copy, Drop)]
-pub(crate) struct Where<P, M> {
-    pub pick: P,
-    pub measure: M,
-}
-
-impl<R: Copy, P: Pick<R>, M: Measure<R>> Measure<R> for Where<P, M> {
-    type Out = M::Out;
-
-    ghost given = { λ it r. cond (P.Pick.picked it.pick r) (M.Measure.given it.measure r) M.Out.Tally.none };
-
-    fn of(&self, item: R) -> M::Out {
-        if self.pick.picks(item) {
-            self.measure.of(item)
-        } else {
-            M::Out::empty()
-        }
-    }
 }

@@ -7,12 +7,13 @@ ghost use Rattle.book.specs.Books.{side_of, is_of, rests_on, depth_of, book_of, 
 use crate::best::Best;
 use crate::book::Book;
 use crate::depth::Depth;
-use crate::measures::{DepthOf, PriceOf, TurnoverOf, Where};
+use crate::measures::{DepthOf, PriceOf, TurnoverOf};
 use crate::picks::{OfSymbol, RestsOn};
 use crate::turnover::Turnover;
 use messages::code::Side;
 use records::order::Order;
 use records::symbol_row::SymbolRow;
+use store::picked::Picked;
 use store::store::Store;
 use store::sweep::remove_picked;
 use store::walk::walk;
@@ -35,7 +36,7 @@ fn book_on<S: Store<Order>, const BUYS: bool>(orders: &S, symbol: u64) -> Book
     ensures says { S.Store.ready orders.now → result ≡ book_of symbol (side_of BUYS) (S.Store.model orders.now).rows }
     ensures best { S.Store.ready orders.now → IsBest (side_of BUYS) (map (λ o. o.price) (those (rests_on symbol (side_of BUYS)) (S.Store.model orders.now).rows)) result.best }
 {
-    let resting = Where {
+    let resting = Picked {
         pick: RestsOn {
             symbol,
             side: side::<BUYS>(),

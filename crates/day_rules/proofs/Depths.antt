@@ -4,9 +4,9 @@ use Rattle.std.proofs.lemmas.Bool.Decides.{nat_tests}
 use Rattle.messages.specs.declared.code.Side.{Side}
 use Rattle.messages.specs.declared.code.Side.TheVariants.{Buy, Sell}
 use Rattle.records.specs.declared.order.Order.{Order}
-use Rattle.store.specs.Lists.{Each, those}
+use Rattle.store.specs.Lists.{Each, those, sum}
 use Rattle.store.proofs.Each.{each-so}
-use Rattle.book.specs.Books.{sum, is_of, rests_on, depth_of}
+use Rattle.book.specs.Books.{is_of, rests_on, depth_of}
 use Rattle.day_rules.specs.Days.{greatest_limit}
 use Rattle.day_rules.proofs.Standing.{NarrowOrder, shares_if}
 use Rattle.day_rules.proofs.Sums.{sum-most, sum-those}

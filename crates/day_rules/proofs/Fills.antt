@@ -4,12 +4,11 @@ use Rattle.std.proofs.lemmas.Bool.{cases_eq, ne_eqb, eq-eqb}
 use Rattle.std.proofs.lemmas.Bool.Decides.{nat_tests}
 use Rattle.records.specs.declared.execution.Execution.{Execution}
 use Rattle.records.specs.Keys.{execution_key}
-use Rattle.store.specs.Lists.{Each, Rising, lookup, holds, placed, replaced}
+use Rattle.store.specs.Lists.{Each, Rising, lookup, holds, placed, replaced, sum}
 use Rattle.store.proofs.Inserting.{absent-unheld}
 use Rattle.store.proofs.Keyed.{lookup_absent}
 use Rattle.store.proofs.Placed.{each_placed, length-placed}
 use Rattle.store.proofs.Ruling.{found-key, found-each, each-replaced, length-replaced}
-use Rattle.book.specs.Books.{sum}
 use Rattle.day_rules.specs.declared.outcome.Outcome.{Outcome}
 use Rattle.day_rules.specs.Events.{Event, breaks}
 use Rattle.day_rules.specs.Rules.{marked}

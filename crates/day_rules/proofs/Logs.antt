@@ -9,9 +9,8 @@ use Rattle.records.specs.declared.order.Order.{Order}
 use Rattle.records.specs.declared.execution.Execution.{Execution}
 use Rattle.records.specs.declared.symbol_row.SymbolRow.{SymbolRow}
 use Rattle.records.specs.Keys.{order_key, execution_key, row_worth}
-use Rattle.store.specs.Lists.{lookup, those}
+use Rattle.store.specs.Lists.{lookup, those, sum}
 use Rattle.store.proofs.Ruling.{found-each}
-use Rattle.book.specs.Books.{sum}
 use Rattle.day_rules.specs.declared.fault.LedgerFault.{LedgerFault}
 use Rattle.day_rules.specs.Days.{Day}
 use Rattle.day_rules.specs.Events.{event_of}

@@ -6,9 +6,9 @@ use Rattle.records.specs.declared.symbol_row.SymbolRow.{SymbolRow}
 use Rattle.records.specs.Keys.{symbol_key, row_worth}
 use Rattle.records.specs.Values.{worth}
 use Rattle.records.specs.ValuesLemmas.{worth-valued}
-use Rattle.store.specs.Lists.{Each, Rising, lookup, holds}
+use Rattle.store.specs.Lists.{Each, Rising, lookup, holds, sum}
 use Rattle.store.proofs.Each.{each-so}
-use Rattle.book.specs.Books.{sum, turnover_of}
+use Rattle.book.specs.Books.{turnover_of}
 use Rattle.day_rules.specs.Days.{greatest_limit}
 use Rattle.day_rules.specs.Rows.{execution_worth}
 use Rattle.day_rules.specs.Words.{History, row_needed}

@@ -11,8 +11,8 @@ use Rattle.store.proofs.Lookups.{lookup-others}
 use Rattle.store.proofs.Inserting.{absent-unheld}
 use Rattle.store.proofs.Ruling.{found-key, found-each, each-replaced, length-replaced, each-without, lookup-swept}
 use Rattle.store.proofs.Sweeps.{each-others, rising-others}
-use Rattle.store.specs.Lists.{Each, lookup, holds, placed, replaced, without, others}
-use Rattle.book.specs.Books.{sum, is_of}
+use Rattle.store.specs.Lists.{Each, lookup, holds, placed, replaced, without, others, sum}
+use Rattle.book.specs.Books.{is_of}
 use Rattle.day_rules.specs.declared.outcome.Outcome.{Outcome}
 use Rattle.day_rules.specs.Events.{Event, clears, adds, executes, cancels, trades, breaks}
 use Rattle.day_rules.specs.Laws.{shares_of}

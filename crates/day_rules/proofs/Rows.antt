@@ -8,12 +8,11 @@ use Rattle.records.specs.declared.order.Order.{Order}
 use Rattle.records.specs.declared.execution.Execution.{Execution}
 use Rattle.records.specs.declared.symbol_row.SymbolRow.{SymbolRow}
 use Rattle.records.specs.Keys.{execution_key, symbol_key}
-use Rattle.store.specs.Lists.{Each, Rising, lookup, holds, placed, replaced}
+use Rattle.store.specs.Lists.{Each, Rising, lookup, holds, placed, replaced, sum}
 use Rattle.store.specs.Models.{Model, inserted}
 use Rattle.store.proofs.Each.{each-so}
 use Rattle.store.proofs.Placed.{each_placed, length-placed}
 use Rattle.store.proofs.Ruling.{found-each, each-replaced}
-use Rattle.book.specs.Books.{sum}
 use Rattle.day_rules.specs.Days.{greatest_limit}
 use Rattle.day_rules.specs.Events.{Event, clears, adds, executes, cancels, trades, breaks}
 use Rattle.day_rules.specs.Rows.{row_of, execution_worth, with_execution, without_execution, new_row, row_or_new}

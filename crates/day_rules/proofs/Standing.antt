@@ -4,8 +4,7 @@ use Rattle.records.specs.declared.order.Order.{Order}
 use Rattle.records.specs.declared.execution.Execution.{Execution}
 use Rattle.records.specs.declared.symbol_row.SymbolRow.{SymbolRow}
 use Rattle.records.specs.Keys.{order_key, execution_key, symbol_key}
-use Rattle.store.specs.Lists.{Each, Rising, lookup}
-use Rattle.book.specs.Books.{sum}
+use Rattle.store.specs.Lists.{Each, Rising, lookup, sum}
 use Rattle.day_rules.specs.declared.outcome.Outcome.{Outcome}
 use Rattle.day_rules.specs.Days.{Day, greatest_limit}
 use Rattle.day_rules.specs.Events.{Event, clears, adds, executes, cancels, trades, breaks}

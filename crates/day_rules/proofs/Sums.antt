@@ -3,11 +3,10 @@ use Rattle.std.proofs.Common.{◌≡◌, ℕ, ◌+◌, ◌*◌, ◌<◌, ◌≤�
 use Rattle.std.proofs.Math.Nat.{add-zero}
 use Rattle.std.proofs.lemmas.Bool.{cases_eq, eq-eqb, ne_eqb}
 use Rattle.std.proofs.lemmas.Bool.Decides.{nat_tests}
-use Rattle.store.specs.Lists.{Each, Rising, lookup, holds, placed, replaced, without, those, others}
+use Rattle.store.specs.Lists.{Each, Rising, lookup, holds, placed, replaced, without, those, others, sum}
 use Rattle.store.proofs.Each.{absent-higher}
 use Rattle.store.proofs.Keyed.{holds-absent}
 use Rattle.store.proofs.Lookups.{lookup-here, lookup-later}
-use Rattle.book.specs.Books.{sum}
 
 module _ {X : Type 0} (w : X → ℕ) where
   -- at each record the same, or no more, or at most b

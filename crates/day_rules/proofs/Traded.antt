@@ -1,8 +1,8 @@
 -- What has traded of a symbol, by the log.
 use Rattle.std.proofs.Common.{◌≡◌, ℕ, cond, sym, ◌∙◌, arith}
 use Rattle.std.proofs.lemmas.Bool.Decides.{nat_tests}
+use Rattle.store.specs.Lists.{sum}
 use Rattle.records.specs.declared.execution.Execution.{Execution}
-use Rattle.book.specs.Books.{sum}
 use Rattle.day_rules.specs.Days.{Day}
 use Rattle.day_rules.specs.Words.{History, fills, counts_for, traded}
 use Rattle.day_rules.proofs.Standing.{unless_broken, if_of, stored, Stands}

@@ -8,8 +8,8 @@ use Rattle.records.specs.declared.execution.Execution.{Execution}
 use Rattle.records.specs.Keys.{row_worth, symbol_key}
 use Rattle.records.specs.Values.{worth}
 use Rattle.book.specs.declared.turnover.Turnover.{Turnover}
-use Rattle.store.specs.Lists.{holds, those}
-use Rattle.book.specs.Books.{sum, depth_of}
+use Rattle.store.specs.Lists.{holds, those, sum}
+use Rattle.book.specs.Books.{depth_of}
 use Rattle.day_rules.specs.declared.fault.LedgerFault.{LedgerFault}
 use Rattle.day_rules.specs.Days.{Day}
 use Rattle.day_rules.specs.Log.{Log, Logged}

@@ -1,5 +1,5 @@
 -- The questions that a ledger answers, and their replies. None changes anything.
-use Rattle.std.specs.Prelude.{ℕ, Option}
+use Rattle.std.specs.Prelude.{ℕ, List, take, Option}
 use Rattle.messages.specs.declared.code.Side.{Side}
 use Rattle.records.specs.declared.order.Order.{Order}
 use Rattle.records.specs.declared.execution.Execution.{Execution}
@@ -21,6 +21,8 @@ pub data Question : Type 0 where
   row : ℕ → Question
   -- the row with the least symbol number at or above one
   row_from : ℕ → Question
+  -- the first so many rows by rising symbol number
+  rows : ℕ → Question
   -- what rests of a symbol on a side
   book : ℕ → Side → Question
   -- what has traded of all symbols
@@ -31,6 +33,10 @@ pub data Question : Type 0 where
 -- the first row from a symbol number on
 abbrev pub row_from_in : ℕ → Day → Option SymbolRow
 row_from_in symbol d = first_from symbol_key symbol d.symbols.rows
+
+-- the first so many rows by rising symbol number
+abbrev pub rows_in : ℕ → Day → List SymbolRow
+rows_in most d = take most d.symbols.rows
 
 -- what rests of a symbol on a side
 abbrev pub book_in : ℕ → Side → Day → Book
@@ -45,6 +51,7 @@ ReplyTo (order id) = Option Order
 ReplyTo (execution id) = Option Execution
 ReplyTo (row symbol) = Option SymbolRow
 ReplyTo (row_from symbol) = Option SymbolRow
+ReplyTo (rows most) = List SymbolRow
 ReplyTo (book symbol side) = Book
 ReplyTo market = Turnover
 ReplyTo accepted = ℕ
@@ -54,6 +61,7 @@ reply (order id) d = order_in id d
 reply (execution id) d = execution_in id d
 reply (row symbol) d = row_in symbol d
 reply (row_from symbol) d = row_from_in symbol d
+reply (rows most) d = rows_in most d
 reply (book symbol side) d = book_in symbol side d
 reply market d = market_in d
 reply accepted d = d.accepted

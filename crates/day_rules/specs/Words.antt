@@ -6,8 +6,7 @@ use Rattle.messages.specs.Telling.{line_message}
 use Rattle.records.specs.declared.order.Order.{Order}
 use Rattle.records.specs.declared.execution.Execution.{Execution}
 use Rattle.records.specs.declared.symbol_row.SymbolRow.{SymbolRow}
-use Rattle.store.specs.Lists.{those}
-use Rattle.book.specs.Books.{sum}
+use Rattle.store.specs.Lists.{those, sum}
 use Rattle.day_rules.specs.declared.outcome.Outcome.{Outcome}
 use Rattle.day_rules.specs.Events.{Event, clears, adds, executes, cancels, trades, breaks, event_of}
 use Rattle.day_rules.specs.Log.{Log, line_put, question_put}

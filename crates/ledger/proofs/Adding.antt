@@ -1,11 +1,14 @@
 -- What a log adds up to, of whatever answers and leaves what the rules say.
-use Rattle.std.proofs.Common.{◌≡◌, ℕ, ◌+◌, List, ◌∷◌, length, Ok, Err, Option, Result, OnErr, sym, ◌∙◌, arith}
+use Rattle.std.proofs.Common.{◌≡◌, ℕ, ◌+◌, ◌≤◌, List, ◌∷◌, length, min, take, Ok, Err, Option, Result, OnErr, sym, ap, ◌∙◌, arith}
+use Rattle.std.proofs.lemmas.List.{take_min, take_all}
 use Rattle.messages.specs.declared.code.Side.{Side}
 use Rattle.messages.specs.declared.code.Side.TheVariants.{Buy, Sell}
 use Rattle.records.specs.declared.order.Order.{Order}
 use Rattle.records.specs.declared.execution.Execution.{Execution}
 use Rattle.records.specs.declared.symbol_row.SymbolRow.{SymbolRow}
-use Rattle.store.specs.Lists.{those}
+use Rattle.records.specs.Keys.{symbol_key}
+use Rattle.store.specs.Clients.{Listed}
+use Rattle.store.specs.Lists.{lookup, those}
 use Rattle.book.specs.Books.{rests_on}
 use Rattle.book.specs.declared.book.Book.{Book}
 use Rattle.book.specs.declared.turnover.Turnover.{Turnover}
@@ -14,7 +17,7 @@ use Rattle.day_rules.specs.declared.outcome.Outcome.{Outcome}
 use Rattle.day_rules.specs.Days.{Day}
 use Rattle.day_rules.specs.Laws.{IsBalanced, IsLeft, IsTraded, IsMarket, shares_of, volume_in, value_in, other_side, LogLaws}
 use Rattle.day_rules.specs.Log.{Log, Logged, line_put}
-use Rattle.day_rules.specs.Questions.{book_in, market_in}
+use Rattle.day_rules.specs.Questions.{rows_in, book_in, market_in}
 use Rattle.day_rules.specs.Rules.{answer, next, order_in, execution_in, row_in}
 use Rattle.day_rules.specs.Words.{history, logged_order, logged_execution, logged_row}
 use Rattle.day_rules.proofs.Logs.{every_log}
@@ -45,6 +48,16 @@ execution_told log d id r h e = e ∙ (every_log log d h).executions_as_accepted
 
 pub row_told : (log : Log) (d : Day) (symbol : ℕ) (r : Option SymbolRow) → Logged log d → r ≡ row_in symbol d → r ≡ logged_row symbol (history log)
 row_told log d symbol r h e = e ∙ (every_log log d h).rows_as_traded symbol
+
+-- the part of the places that the rows fill
+pub rows_listed : (d : Day) (was is : List SymbolRow) (n : ℕ) → Listed d.symbols.rows was is n → take n is ≡ rows_in (length was) d
+rows_listed d was is n l =
+    let fit : n ≡ min (length was) (length d.symbols.rows) = (let e = l.count in omega arith) in
+    l.list ∙ ap (λ k. take k d.symbols.rows) fit ∙ take_min (length was) d.symbols.rows
+
+pub rows_told : (log : Log) (d : Day) (was is : List SymbolRow) (n symbol : ℕ) → Logged log d → Listed d.symbols.rows was is n → length d.symbols.rows ≤ length was → lookup symbol_key symbol (take n is) ≡ logged_row symbol (history log)
+rows_told log d was is n symbol h l fit =
+    ap (lookup symbol_key symbol) (rows_listed d was is n l ∙ take_all (length was) d.symbols.rows fit) ∙ (every_log log d h).rows_as_traded symbol
 
 pub market_told : (log : Log) (d : Day) (r : Turnover) → Logged log d → r ≡ market_in d → IsMarket (history log) r
 market_told log d r h e = rw e ((every_log log d h).market_adds_up)

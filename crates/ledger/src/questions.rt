@@ -1,6 +1,8 @@
 // What a ledger is asked. Questions change nothing; what they answer of shares, volume and value is what the log adds up to.
-ghost use Rattle.std.specs.Prelude.{◌≡◌, ◌+◌, ◌∷◌, map, length};
-ghost use Rattle.store.specs.Lists.{those};
+ghost use Rattle.std.specs.Prelude.{◌≡◌, ℕ, ◌+◌, ◌≤◌, ◌∷◌, map, length, take};
+ghost use Rattle.records.specs.Keys.{symbol_key};
+ghost use Rattle.store.specs.Clients.{Listed};
+ghost use Rattle.store.specs.Lists.{lookup, those};
 ghost use Rattle.book.specs.Books.{rests_on, IsBest};
 ghost use Rattle.day_rules.specs.Laws.{IsBalanced, IsLeft, IsTraded, IsMarket, shares_of, volume_in, value_in, other_side};
 ghost use Rattle.day_rules.specs.Log.{Log, Logged, question_put};
@@ -17,6 +19,7 @@ use messages::code::Side;
 use records::execution::Execution;
 use records::order::Order;
 use records::symbol_row::SymbolRow;
+use store::clients::list_into;
 use store::store::Store;
 
 impl<O: Store<Order>, E: Store<Execution>, S: Store<SymbolRow>> Ledger<O, E, S> {
@@ -58,6 +61,16 @@ impl<O: Store<Order>, E: Store<Execution>, S: Store<SymbolRow>> Ledger<O, E, S> 
         ensures logged { (log : Log) → Logged log self.now → Logged (question_put (question.row_from symbol) result ∷ log) self.now }
     {
         self.symbols.from(symbol)
+    }
+
+    // The rows by rising symbol number, all or as many as there are places for, and how many they are. The places behind them stay.
+    #[tactic(auto, using(crate::proofs::Adding::rows_listed, crate::proofs::Adding::rows_told))]
+    pub fn rows(&self, places: &mut [SymbolRow]) -> usize
+        ensures says { Listed self.now.symbols.rows places.old places.new result }
+        ensures logged { (log : Log) → Logged log self.now → Logged (question_put (question.rows (length places.old)) (take result places.new) ∷ log) self.now }
+        ensures by_log { (log : Log) → Logged log self.now → length self.now.symbols.rows ≤ length places.old → (symbol : ℕ) → lookup symbol_key symbol (take result places.new) ≡ logged_row symbol (history log) }
+    {
+        list_into(&self.symbols, places)
     }
 
     // What rests of a symbol on a side. With what rests on the other side, its shares are what the log's add up to.

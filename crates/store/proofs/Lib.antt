@@ -1,6 +1,7 @@
 pub mod Inserting
 pub mod Each
 pub mod Keyed
+pub mod Picking
 pub mod Placed
 pub mod Sweeps
 pub mod Walking

@@ -1,5 +1,5 @@
 -- Lists of records with rising keys, by the key that a record has.
-use Rattle.std.specs.Prelude.{ℕ, ◌<◌, Bool, cond, List, [], ◌∷◌, is_some, Some, None, Option, ◌==◌, nat_le, nat_lt}
+use Rattle.std.specs.Prelude.{ℕ, ◌+◌, ◌<◌, Bool, cond, List, [], ◌∷◌, is_some, Some, None, Option, ◌==◌, nat_le, nat_lt}
 
 -- P holds of each record
 abbrev pub Each : {X : Type 0} → (X → Type 0) → List X → Type 0
@@ -49,3 +49,8 @@ those p (x ∷ xs) = cond (p x) (x ∷ those p xs) (those p xs)
 abbrev pub others : {X : Type 0} → (X → Bool) → List X → List X
 others p [] = []
 others p (x ∷ xs) = cond (p x) (others p xs) (x ∷ others p xs)
+
+-- what f gives of each, added up
+abbrev pub sum : {X : Type 0} → (X → ℕ) → List X → ℕ
+sum f [] = 0
+sum f (x ∷ xs) = f x + sum f xs

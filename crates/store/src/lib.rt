@@ -3,6 +3,7 @@
 
 pub mod clients;
 pub mod pick;
+pub mod picked;
 pub mod record;
 pub mod refusal;
 pub mod rules;
