@@ -12,9 +12,8 @@ use Rattle.store.specs.Lists.{those, sum}
 use Rattle.records.specs.declared.order.Order.{Order}
 use Rattle.records.specs.declared.symbol_row.SymbolRow.{SymbolRow}
 use Rattle.records.specs.Keys.{row_worth}
-use Rattle.records.specs.declared.value.Value.{Value}
-use Rattle.records.specs.Values.{stopped, Parts, valued, joined}
-use Rattle.records.specs.ValuesLemmas.{same_parts, joined-valued}
+use Rattle.records.specs.Values.{valued, joined}
+use Rattle.records.specs.ValuesLemmas.{joined-valued}
 use Rattle.book.specs.declared.best.Best.{Best}
 use Rattle.book.specs.declared.depth.Depth.{Depth}
 use Rattle.book.specs.declared.turnover.Turnover.{Turnover}
@@ -84,7 +83,3 @@ module _ {B : ℕ} (side : Side) where
       picked-joined p both_given both_none (pairwise depth_with best_with) (λ x i. record { first = record { orders = neutral x.first.orders i; shares = neutral x.first.shares i }; second = x.second }) os
       ∙ both-joined (depth_of []) depth_with depth_given best_none best_with best_given (those p os)
       ∙ (λ i. record { first = depth-joined (those p os) i; second = best-joined (those p os) i })
-
--- the value of the two parts
-pub is_valued : (v : Value) (n : ℕ) → Parts v (stopped n) → v ≡ valued n
-is_valued v n e = same_parts v (valued n) e.upper e.lower

@@ -9,7 +9,6 @@ use crate::depth::Depth;
 use crate::turnover::Turnover;
 use records::order::Order;
 use records::symbol_row::SymbolRow;
-use records::value::Value;
 use tally::measure::Measure;
 use tally::total::Total;
 
@@ -58,14 +57,7 @@ impl Measure<SymbolRow> for TurnoverOf {
     fn of(&self, item: SymbolRow) -> Turnover {
         Turnover {
             volume: Total::of(item.volume),
-            value: value_of(&item),
+            value: item.value(),
         }
     }
-}
-
-#[tactic(auto, using(crate::proofs::Sums::is_valued))]
-fn value_of(row: &SymbolRow) -> Value
-    ensures { result ≡ valued (row_worth row.now) }
-{
-    row.value()
 }

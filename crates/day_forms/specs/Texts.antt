@@ -75,10 +75,13 @@ abbrev pub best_field : Option ℕ → List ℕ → List ℕ
 best_field None rest = codes " (best none)" ++ rest
 best_field (Some price) rest = field (codes "best") (decimal price) rest
 
+-- how many orders rest, their shares, and the best price
+abbrev pub resting_text : Book → List ℕ
+resting_text b =
+    field (codes "orders") (decimal b.depth.orders.number) (field (codes "shares") (decimal b.depth.shares.number) (best_field b.best []))
+
 abbrev pub book_text : Book → List ℕ
-book_text b =
-    codes "(book"
-    ++ field (codes "orders") (decimal b.depth.orders.number) (field (codes "shares") (decimal b.depth.shares.number) (best_field b.best (codes ")")))
+book_text b = codes "(book" ++ (resting_text b ++ codes ")")
 
 abbrev pub turnover_text : Turnover → List ℕ
 turnover_text t = codes "(turnover" ++ field (codes "volume") (decimal t.volume.number) (value_field t.value.high t.value.low (codes ")"))

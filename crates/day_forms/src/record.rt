@@ -71,7 +71,7 @@ impl fmt::Display for RowForm<'_> {
 
 // A value as the letter that a line has for it.
 #[derive(Drop)]
-struct LetterText<L>(L);
+pub struct LetterText<L>(pub L);
 
 impl<L: Lettered> fmt::Display for LetterText<L> {
     ghost output = { λ t. Some (encode_utf8 (L.Lettered.written t.0)) };

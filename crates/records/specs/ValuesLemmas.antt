@@ -4,7 +4,7 @@ use Rattle.std.proofs.Common.{arith}
 use mathlib.Core.HLevel.{is_prop→PathP}
 use Rattle.std.proofs.Math.Bridge.{le_prop}
 use Rattle.records.specs.declared.value.Value.{Value}
-use Rattle.records.specs.Values.{worth, stopped, valued, joined}
+use Rattle.records.specs.Values.{worth, stopped, Parts, valued, joined}
 
 -- two proofs of a bound are one, so the parts are all that a value holds
 pub same_parts : (v w : Value) → v.high ≡ w.high → v.low ≡ w.low → v ≡ w
@@ -15,6 +15,9 @@ same_parts v w h l =
       small = is_prop→PathP (λ j. l j < 10 ^ 16) (λ j. le_prop) v.small w.small i;
       fits = is_prop→PathP (λ j. h j < 2 ^ 64) (λ j. le_prop) v.fits w.fits i;
     }
+
+pub is_valued : (v : Value) (n : ℕ) → Parts v (stopped n) → v ≡ valued n
+is_valued v n e = same_parts v (valued n) e.upper e.lower
 
 pub same-worth : (v w : Value) → worth v ≡ worth w → v ≡ w
 same-worth v w e = same_parts v w (omega arith) (omega arith)

@@ -1,6 +1,6 @@
 // What has traded of one symbol.
-ghost use Rattle.std.specs.Prelude.{◌+◌, ◌*◌, ◌%◌, ◌^◌};
-ghost use Rattle.records.specs.Values.{stopped, Parts};
+ghost use Rattle.std.specs.Prelude.{◌≡◌, ◌+◌, ◌*◌, ◌%◌, ◌^◌};
+ghost use Rattle.records.specs.Values.{stopped, valued, Parts};
 ghost use Rattle.records.specs.KeysLemmas as Keys;
 
 use crate::value::Value;
@@ -27,8 +27,10 @@ impl SymbolRow {
     };
 
     // What the shares traded for.
+    #[tactic(auto, using(crate::specs::ValuesLemmas::is_valued))]
     pub fn value(&self) -> Value
-        ensures { Parts result (stopped (self.now.value_high * 10 ^ 16 + self.now.value_low)) }
+        ensures parts { Parts result (stopped (self.now.value_high * 10 ^ 16 + self.now.value_low)) }
+        ensures is { result ≡ valued (self.now.value_high * 10 ^ 16 + self.now.value_low) }
     {
         Value::of_parts(self.value_high, self.value_low)
     }
