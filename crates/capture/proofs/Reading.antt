@@ -1,12 +1,12 @@
 -- A line that comes in pieces.
-use Rattle.std.proofs.Common.{◌≡◌, ℕ, zero, suc, ◌-◌, ◌<◌, ◌≤◌, List, [], ◌∷◌, ◌++◌, length, take, drop, map, MatchOption, Option, Some, None, IfSome, option_map, if◌then◌else◌, nat_eq, sym, refl, ap, subst, ◌∙◌, ⊎_elim, arith, append_assoc, append-nil, length-append, take_all, take-append-drop, eq-eqb, ne_eqb}
+use Rattle.std.proofs.Common.{◌≡◌, ℕ, zero, suc, ◌-◌, ◌<◌, ◌≤◌, List, [], ◌∷◌, ◌++◌, length, take, drop, map, Bool, true, false, not, eqb, MatchBool, Option, Some, None, IfSome, sym, refl, ap, subst, ◌∙◌, ⊎_elim, arith, append_assoc, append-nil, length-append, take_all, take-append-drop, eq-eqb, ne_eqb}
 use Rattle.std.proofs.lemmas.List.{length-take}
 use Rattle.std.proofs.lemmas.Bool.{cases_eq}
 use Rattle.std.specs.Io.{StartsWith}
 use Rattle.std.specs.Io.KnownBytes.{Keeps}
 use Rattle.std.specs.Io.BufRead.{drop_through, DropsConsumable}
 use Rattle.capture.specs.declared.buffer.LineBuffer.{LineBuffer}
-use Rattle.capture.specs.Held.{held}
+use Rattle.capture.specs.Held.{held, if_there}
 use Rattle.capture.specs.Splits.{before_end, after_end, used_of}
 use Rattle.capture.specs.Lines.{passed_on, next_of, onto_first, whole_lines, lines_of}
 
@@ -134,7 +134,7 @@ ends-there h xs piece h' used shown found e = by-end (after_end piece) refl
         )
 
 -- no more bytes are to come, and the line is what came, unless that is nothing
-pub ended : (b : LineBuffer) → option_map held (if nat_eq (length (held b)) 0 then None else Some b) ≡ ahead (held b) []
+pub ended : (b : LineBuffer) → if_there (not (eqb (length (held b)) 0)) b ≡ ahead (held b) []
 ended b =
     let fits : length (held b) ≤ 255 = omega (arith, length-take b.len b.bytes, b.inside) in
     ⊎_elim
@@ -177,11 +177,11 @@ whole-first x (y ∷ ys) =
     (λ e. let off = ne_eqb x 10 e in rw off (ap (onto_first x) (whole-first y ys)))
     (cases_eq x 10)
 
-pub lines-first : (xs : List ℕ) (line : Option LineBuffer) → option_map held line ≡ next_of xs
-    → MatchOption line (lines_of xs ≡ []) (λ l. lines_of xs ≡ held l ∷ lines_of (drop_through 10 xs))
-lines-first [] None is = refl
-lines-first [] (Some l) is = cc
-lines-first (x ∷ xs) None is = cc
-lines-first (x ∷ xs) (Some l) is =
-    let same : held l ≡ passed_on (before_end (x ∷ xs)) = cc in
+pub lines-first : (xs : List ℕ) (there : Bool) (b : LineBuffer) → if_there there b ≡ next_of xs
+    → MatchBool there (lines_of xs ≡ held b ∷ lines_of (drop_through 10 xs)) (lines_of xs ≡ [])
+lines-first [] false b is = refl
+lines-first [] true b is = cc
+lines-first (x ∷ xs) false b is = cc
+lines-first (x ∷ xs) true b is =
+    let same : held b ≡ passed_on (before_end (x ∷ xs)) = cc in
     ap (map passed_on) (whole-first x xs) ∙ ap (λ line. line ∷ lines_of (drop_through 10 (x ∷ xs))) (sym same)

@@ -1,6 +1,9 @@
 // Where a line ends.
-ghost use Rattle.std.specs.Prelude.{◌≡◌, ◌<◌, ◌==◌, length, Some, None, MatchOption, position};
+ghost use Rattle.std.specs.Prelude.{◌≡◌, ◌<◌, length, Some, None, MatchOption};
+ghost use Rattle.memchr.specs.Find.{IsFirstByte, is_byte};
 ghost use Rattle.capture.specs.Splits.{before_end, after_end};
+
+use memchr::memchr;
 
 // What stands before the first line end and what stands after it; without a line end all of it, and nothing.
 pub fn split_line(bytes: &[u8]) -> (&[u8], Option<&[u8]>)
@@ -15,7 +18,7 @@ pub fn split_line(bytes: &[u8]) -> (&[u8], Option<&[u8]>)
 
 // The place of the first line end, if there is one.
 fn line_end(bytes: &[u8]) -> Option<usize>
-    ensures { result ≡ position (λ b. b == 10) bytes.now }
+    ensures { IsFirstByte (is_byte 10) bytes.now result }
 {
-    bytes.iter().position(|byte| *byte == b'\n')
+    memchr(b'\n', bytes)
 }

@@ -1,6 +1,6 @@
-use Rattle.std.proofs.Common.{◌≡◌, ◌<◌, [], None, Some, Option, List, ℕ, IfSome, option_map, length, drop, refl, sym, ap, subst, ◌∙◌, arith, rules, le_refl}
+use Rattle.std.proofs.Common.{◌≡◌, ◌<◌, [], None, Some, Option, List, ℕ, IfSome, true, not, length, drop, refl, sym, ap, subst, ◌∙◌, arith, rules, le_refl}
 use Rattle.std.specs.Io.BufRead.{drop_through, FillKeeps}
-use Rattle.capture.specs.Held.{held}
+use Rattle.capture.specs.Held.{held, if_there}
 use Rattle.capture.specs.Lines.{next_of}
 use Rattle.capture.specs.Splits.{after_end}
 use Rattle.capture.proofs.Reading.{ahead, goes-on, ends-there, ended, known-weaker, known-at, used-at, lines-first}
@@ -9,20 +9,20 @@ use Rattle.capture.proofs.input.next_line.Goals as goal
 pub loop-init : goal.loop-init
 loop-init g c = start (g.R.Read.remaining c.args.input.now)
   where
-    start : (o : Option (List ℕ)) → IfSome o (λ xs. (ys : List ℕ) × (o ≡ Some ys) × (ahead (held c.new-line.result) ys ≡ next_of xs) × (drop_through 10 ys ≡ drop_through 10 xs))
+    start : (o : Option (List ℕ)) → IfSome o (λ xs. (ys : List ℕ) × (o ≡ Some ys) × (ahead (held c.clear.new.self) ys ≡ next_of xs) × (drop_through 10 ys ≡ drop_through 10 xs))
     start None = tt
-    start (Some xs) = (xs, refl, rw c.new-line.ensures refl, refl)
+    start (Some xs) = (xs, refl, rw c.clear.ensures refl, refl)
 
 pub returns-then-count-eq0-clause-line : goal.returns-then-count-eq0-clause-line
 returns-then-count-eq0-clause-line g c =
     let here = g.R.Read.remaining c.loop.input in
     known-weaker (g.R.Read.remaining c.args.input.now) _ _ (λ xs inv.
     let none : inv.0 ≡ [] = known-at here inv.0 _ inv.1 c.in_ok-bytes.ensures.end c.if-count-eq0.true in
-    ap (option_map held) c.unless_empty.ensures ∙ ended c.loop.line ∙ ap (ahead (held c.loop.line)) (sym none) ∙ inv.2)
+    ap (λ t. if_there (not t) c.loop.line) c.is_empty.ensures ∙ ended c.loop.line ∙ ap (ahead (held c.loop.line)) (sym none) ∙ inv.2)
     c.loop.invariant
 
 pub returns-then-count-eq0-clause-lines : goal.returns-then-count-eq0-clause-lines
-returns-then-count-eq0-clause-lines g c = known-weaker (g.R.Read.remaining c.args.input.now) _ _ (λ xs. lines-first xs c.unless_empty.result) (returns-then-count-eq0-clause-line g c)
+returns-then-count-eq0-clause-lines g c = known-weaker (g.R.Read.remaining c.args.input.now) _ _ (λ xs. lines-first xs (not c.is_empty.result) c.loop.line) (returns-then-count-eq0-clause-line g c)
 
 pub returns-in-Some-clause-line : goal.returns-in-Some-clause-line
 returns-in-Some-clause-line g c =
@@ -34,7 +34,7 @@ returns-in-Some-clause-line g c =
     c.loop.invariant
 
 pub returns-in-Some-clause-lines : goal.returns-in-Some-clause-lines
-returns-in-Some-clause-lines g c = known-weaker (g.R.Read.remaining c.args.input.now) _ _ (λ xs. lines-first xs (Some c.gather.new.line)) (returns-in-Some-clause-line g c)
+returns-in-Some-clause-lines g c = known-weaker (g.R.Read.remaining c.args.input.now) _ _ (λ xs. lines-first xs true c.gather.new.line) (returns-in-Some-clause-line g c)
 
 pub returns-in-Some-clause-rest : goal.returns-in-Some-clause-rest
 returns-in-Some-clause-rest g c =

@@ -7,7 +7,7 @@ pub returns-in-Some : goal.returns-in-Some
 returns-in-Some c =
     let xs = c.args.bytes.now in
     let n = c.in-Some.end in
-    let found = split-found xs n (sym c.in-Some.ensures) in
+    let found = split-found xs n c.in-Some.ensures in
     let rest = take_rest xs (n + 1) in
     let rest-length = ap length rest in
     let size = length-drop (n + 1) xs in
@@ -18,5 +18,5 @@ returns-in-Some c =
 
 pub returns-in-None : goal.returns-in-None
 returns-in-None c =
-    let none = split-none c.args.bytes.now (sym c.in-None.ensures) in
+    let none = split-none c.args.bytes.now c.in-None.ensures in
     record { first = sym none.0; second = none.1 }
