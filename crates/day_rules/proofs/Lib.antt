@@ -3,9 +3,11 @@ pub mod Changed
 pub mod Depths
 pub mod Fills
 pub mod Fits
+pub mod Fitting
 pub mod Judged
 pub mod Logs
 pub mod Market
+pub mod Numbers
 pub mod Orders
 pub mod Refusing
 pub mod Rows

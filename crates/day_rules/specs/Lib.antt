@@ -3,6 +3,7 @@ pub mod Due
 pub mod Events
 pub mod Faults
 pub mod Laws
+pub mod Lines
 pub mod Log
 pub mod Questions
 pub mod Rows

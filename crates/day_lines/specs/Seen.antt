@@ -1,0 +1,36 @@
+-- What became of lines: how many there were, and how often each refusal came.
+use Rattle.std.specs.Prelude.{◌≡◌, ℕ, ◌<◌, ◌^◌, ◌-◌, List, length, min, replicate, Ok, Err, Result, slice_index_or, slice_set}
+use Rattle.capture.specs.Counts.{more}
+use Rattle.day_rules.specs.declared.fault.LedgerFault.{LedgerFault}
+use Rattle.day_rules.specs.declared.outcome.Outcome.{Outcome}
+use Rattle.day_rules.specs.Faults.{refusal_number}
+use Rattle.day_rules.specs.Lines.{times_refused}
+use Rattle.day_lines.specs.declared.seen.Seen.{Seen}
+
+-- a number as far as a count goes
+abbrev pub at_most : ℕ → ℕ
+at_most n = min n (2 ^ 64 - 1)
+
+-- the count at the place n
+abbrev pub count_at : ℕ → List ℕ → ℕ
+count_at n counts = slice_index_or counts n 0
+
+-- one more at the place n
+abbrev pub counted : ℕ → List ℕ → List ℕ
+counted n counts = slice_set counts n (more (count_at n counts))
+
+abbrev pub none_seen : Seen
+none_seen = record { lines = record { lines = 0 }; refusals = record { counts = replicate 15 0 } }
+
+-- the refusals after one more answer
+abbrev pub answer_counted : Result Outcome LedgerFault → List ℕ → List ℕ
+answer_counted (Ok outcome) counts = counts
+answer_counted (Err fault) counts = counted (refusal_number fault) counts
+
+abbrev pub one_seen : Result Outcome LedgerFault → Seen → Seen
+one_seen a s = record { lines = record { lines = more s.lines.lines }; refusals = record { counts = answer_counted a s.refusals.counts } }
+
+-- all lines with these answers were seen: there are as many, and each refusal came as often as it is among the answers
+pub record IsSeen (s : Seen) (answers : List (Result Outcome LedgerFault)) : Type 0 where
+  pub lines : s.lines.lines ≡ at_most (length answers)
+  pub refusals : (n : ℕ) → n < 15 → count_at n s.refusals.counts ≡ at_most (times_refused n answers)
