@@ -1,3 +1,1 @@
-mod Printing
-mod Rising
-mod Walking
+mod Printed

@@ -1,9 +1,7 @@
 // Keeps a day: reads the feed's lines from standard input, prints what each did to the book or why it is refused, and at the end what has traded of each symbol.
 #![tactic(auto)]
 
-mod rows;
 mod running;
-mod taking;
 
 use running::run;
 use std::io;

@@ -1,11 +1,11 @@
 // From the first line to the last row.
 ghost use Rattle.std.specs.Prelude.{◌≡◌, length, IfSome, OnOk};
 ghost use Rattle.std.specs.Io.KnownBytes.{Appends};
-ghost use Rattle.day.specs.Texts.{text_from, opened, day_text};
-ghost use Rattle.day.specs.Walks.{printed_of};
+ghost use Rattle.day_rules.specs.Days.{opened, greatest_limit};
+ghost use Rattle.day.specs.Texts.{printed, day_text};
 
-use crate::rows::show_rows;
-use crate::taking::take_lines;
+use day_lines::rows::show_rows;
+use day_lines::taking::take_lines;
 use ledger::ledger::Ledger;
 use ledger::open::GREATEST_LIMIT;
 use records::execution::Execution;
@@ -30,17 +30,26 @@ pub fn run<R: BufRead, W: Write>(input: &mut R, output: &mut W) -> io::Result<()
     let mut orders = [Order::BLANK; ORDERS];
     let mut executions = [Execution::BLANK; EXECUTIONS];
     let mut symbols = [SymbolRow::BLANK; SYMBOLS];
-    run_over(&mut orders, &mut executions, &mut symbols, input, output)
+    let mut places = [SymbolRow::BLANK; SYMBOLS];
+    run_over(
+        &mut orders,
+        &mut executions,
+        &mut symbols,
+        &mut places,
+        input,
+        output,
+    )
 }
 
 fn run_over<R: BufRead, W: Write>(
     orders: &mut [Order],
     executions: &mut [Execution],
     symbols: &mut [SymbolRow],
+    places: &mut [SymbolRow],
     input: &mut R,
     output: &mut W,
 ) -> io::Result<()>
-    ensures { OnOk result (IfSome (R.remaining input.old) (λ bytes. Appends (W.contents output.old) (W.contents output.new) (text_from (opened (length orders.old) (length executions.old) (length symbols.old)) bytes))) }
+    ensures { OnOk result (IfSome (R.remaining input.old) (λ bytes. Appends (W.contents output.old) (W.contents output.new) (printed (length places.old) (opened (length orders.old) (length executions.old) (length symbols.old) greatest_limit) bytes))) }
 {
     let mut ledger = Ledger::open(
         RowStore::new(orders),
@@ -48,17 +57,19 @@ fn run_over<R: BufRead, W: Write>(
         RowStore::new(symbols),
         GREATEST_LIMIT,
     );
-    print(&mut ledger, input, output)
+    print(&mut ledger, places, input, output)
 }
 
+// What is answered to the lines, and the rows after them, as many as there are places for.
 fn print<R: BufRead, W: Write, O: Store<Order>, E: Store<Execution>, S: Store<SymbolRow>>(
     ledger: &mut Ledger<O, E, S>,
+    places: &mut [SymbolRow],
     input: &mut R,
     output: &mut W,
 ) -> io::Result<()>
-    ensures { OnOk result (IfSome (R.remaining input.old) (λ bytes. Appends (W.contents output.old) (W.contents output.new) (printed_of ledger.old bytes))) }
+    ensures { OnOk result (IfSome (R.remaining input.old) (λ bytes. Appends (W.contents output.old) (W.contents output.new) (printed (length places.old) ledger.old bytes))) }
 {
-    take_lines(ledger, input, output)?;
-    show_rows(ledger, output)?;
+    take_lines(ledger, true, input, output)?;
+    show_rows(ledger, places, false, output)?;
     output.flush()
 }

@@ -1,2 +1,3 @@
 pub mod Counting
 mod Printing
+pub mod Places

@@ -1,5 +1,5 @@
 -- A day as a ledger keeps it.
-use Rattle.std.specs.Prelude.{ℕ, min, max}
+use Rattle.std.specs.Prelude.{ℕ, List, [], min, max}
 use Rattle.records.specs.declared.order.Order.{Order}
 use Rattle.records.specs.declared.execution.Execution.{Execution}
 use Rattle.records.specs.declared.symbol_row.SymbolRow.{SymbolRow}
@@ -28,6 +28,14 @@ limited n = min (max n 1) greatest_limit
 -- a day that begins over three stores, whatever they held
 abbrev pub opening : Model Order → Model Execution → Model SymbolRow → ℕ → Day
 opening o e s limit = record { orders = emptied o; executions = emptied e; symbols = emptied s; day_limit = limited limit; accepted = 0 }
+
+-- a store that holds nothing, and so many at most
+abbrev pub empty_store : {X : Type 0} → ℕ → Model X
+empty_store limit = record { rows = []; limit = limit }
+
+-- a day that begins, where so many orders, executions and rows are held at most
+abbrev pub opened : (orders executions symbols day_limit : ℕ) → Day
+opened o e s limit = opening (empty_store o) (empty_store e) (empty_store s) limit
 
 -- the same day with other orders, executions or rows
 abbrev pub with_orders : Model Order → Day → Day

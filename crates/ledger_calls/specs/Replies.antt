@@ -38,5 +38,5 @@ abbrev pub left_by : List ℕ → Option (List ℕ) → Day → Day
 left_by line None d = next line d
 left_by line (Some text) d = d
 
-abbrev pub day_after : List ℕ → Day → Day
-day_after line d = left_by line (asked_by line) d
+abbrev pub day_left : List ℕ → Day → Day
+day_left line d = left_by line (asked_by line) d

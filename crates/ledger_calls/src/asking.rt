@@ -1,7 +1,7 @@
 // What a ledger says to a line.
 ghost use Rattle.std.specs.Prelude.{◌≡◌};
 ghost use Rattle.ledger_calls.specs.Questions.{question_of};
-ghost use Rattle.ledger_calls.specs.Replies.{reply_to, replied, said_to, day_after};
+ghost use Rattle.ledger_calls.specs.Replies.{reply_to, replied, said_to, day_left};
 
 use crate::parse::{asked, question};
 use crate::question::Question;
@@ -18,7 +18,7 @@ pub fn say<O: Store<Order>, E: Store<Execution>, S: Store<SymbolRow>>(
     line: &[u8],
 ) -> Said
     ensures says { result ≡ said_to line.now ledger.old }
-    ensures leaves { ledger.new ≡ day_after line.now ledger.old }
+    ensures leaves { ledger.new ≡ day_left line.now ledger.old }
 {
     match asked(line) {
         Some(text) => replied(ledger, text),

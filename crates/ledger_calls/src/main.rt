@@ -2,7 +2,6 @@
 #![tactic(auto)]
 
 mod asking;
-mod keys;
 mod opening;
 mod parse;
 mod question;

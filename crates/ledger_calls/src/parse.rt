@@ -2,12 +2,13 @@
 ghost use Rattle.std.specs.Prelude.{◌≡◌, None, Some, MatchOption};
 ghost use Rattle.words.specs.Words.{words, words_after};
 ghost use Rattle.ledger_calls.specs.Openings.{opening_of, sizes_of};
-ghost use Rattle.ledger_calls.specs.Questions.{asked_by, question_of, key_of, id_of, symbol_of, book_of, bare_of};
+ghost use Rattle.keys.specs.Keys.{id_of, symbol_of};
+ghost use Rattle.ledger_calls.specs.Questions.{asked_by, question_of, key_of, book_of, bare_of};
 
-use crate::keys::{id, side, symbol};
 use crate::opening::Opening;
 use crate::question::Question;
 use crate::verb::{Verb, verb_of};
+use keys::key::{id, side, symbol};
 use words::cut::{after_space, cut, ends, one_word};
 use words::number::{first_number, one_number};
 

@@ -2,6 +2,7 @@
 use crate::asking::say;
 use crate::opening::Opening;
 use crate::parse::opening;
+use capture::buffer::LineBuffer;
 use capture::count::LineCount;
 use capture::input::next_line;
 use day_forms::numbered::Numbered;
@@ -17,9 +18,10 @@ use store::store::Store;
 
 // Answers every line of the input on the output. Where the first opens no ledger, nothing more is answered.
 pub fn run<R: BufRead, W: Write>(heap: Global, input: &mut R, output: &mut W) -> io::Result<()> {
-    let Some(line) = next_line(input)? else {
+    let mut line = LineBuffer::new();
+    if !next_line(input, &mut line)? {
         return Ok(());
-    };
+    }
     let mut count = LineCount::new();
     let Some(opened) = opening(line.line()) else {
         show(output, count.next(), &"(no ledger)")?;
@@ -62,11 +64,12 @@ pub(crate) fn answer_lines<
     input: &mut R,
     output: &mut W,
 ) -> io::Result<()> {
+    let mut line = LineBuffer::new();
     // Nothing says that the input ends, and no handle to wait without end is used here: so the turns are counted.
     for _ in 0..u64::MAX {
-        let Some(line) = next_line(input)? else {
+        if !next_line(input, &mut line)? {
             break;
-        };
+        }
         let said = say(ledger, line.line());
         show(output, count.next(), &said)?;
     }

@@ -5,6 +5,7 @@ ghost use Rattle.capture.specs.Counts.{more};
 use calls::call::Request;
 use calls::parse::parse;
 use calls::reply::{Numbered, Reply};
+use capture::buffer::LineBuffer;
 use capture::input::next_line;
 use std::alloc::Global;
 use std::io;
@@ -33,11 +34,12 @@ impl<'a, R: BufRead, W: Write> Session<'a, R, W> {
 
     // What the next line that is a call asks for, or none at the end of the input.
     pub fn next_request(&mut self) -> io::Result<Option<Request>> {
+        let mut line = LineBuffer::new();
         // Nothing says that the input ends, and no handle to wait without end is used here: so the turns are counted.
         for _ in 0..u64::MAX {
-            let Some(line) = next_line(self.input)? else {
+            if !next_line(self.input, &mut line)? {
                 break;
-            };
+            }
             let request = parse(line.line());
             if request.is_some() {
                 return Ok(request);

@@ -1,7 +1,7 @@
-// The words that a question names an order, an execution, a symbol or a side by, read as a line's fields are.
+// The words that an order or an execution, a symbol and a side go by, read as a line's fields are.
 ghost use Rattle.std.specs.Prelude.{◌≡◌, ◌≤◌, ◌++◌, length, replicate, MatchOption, None, Some, ◌-◌};
 ghost use Rattle.layout.specs.Slots.{width};
-ghost use Rattle.ledger_calls.specs.Questions.{whole, id_of, symbol_of, side_of, padded};
+ghost use Rattle.keys.specs.Keys.{whole, id_of, symbol_of, side_of, padded};
 
 use fields::field::Field;
 use fields::numeral::ID;
@@ -9,14 +9,14 @@ use fields::padded::LONG_SYMBOL;
 use messages::code::Side;
 
 // All twelve digits of an ID.
-pub(crate) fn id(word: &[u8]) -> Option<u64>
+pub fn id(word: &[u8]) -> Option<u64>
     ensures { result ≡ id_of word.now }
 {
     read_whole(ID, word)
 }
 
 // A symbol, to which the spaces at its end are added.
-pub(crate) fn symbol(word: &[u8]) -> Option<u64>
+pub fn symbol(word: &[u8]) -> Option<u64>
     ensures { result ≡ symbol_of word.now }
 {
     if word.len() > 8 {
@@ -46,7 +46,7 @@ fn read_whole<F: Field<Value = u64>>(field: F, bytes: &[u8]) -> Option<u64>
 }
 
 // A side by its letter.
-pub(crate) fn side(word: &[u8]) -> Option<Side>
+pub fn side(word: &[u8]) -> Option<Side>
     ensures { result ≡ side_of word.now }
 {
     match word {
