@@ -1,3 +1,4 @@
+pub mod Powers
 pub mod Rounds
 pub mod Sorted
 pub mod Held

@@ -3,12 +3,18 @@ ghost use Rattle.std.specs.Prelude.{◌≡◌, ◌%◌, ◌<◌};
 ghost use Rattle.hashed_store.specs.Rounds.{around, offset};
 
 // The slot where the search for a key starts.
+#[tactic(auto, using(crate::proofs::Powers::masked))]
 pub(crate) fn home(key: u64, slots: usize) -> usize
     requires { 0 < slots }
     ensures is { result ≡ key % slots }
     ensures inside { result < slots }
 {
-    (key % slots as u64) as usize
+    // A mask, since a division takes as long as a short search.
+    if slots.is_power_of_two() {
+        key as usize & (slots - 1)
+    } else {
+        (key % slots as u64) as usize
+    }
 }
 
 // The slot after one; the first comes after the last.
