@@ -1,0 +1,3 @@
+pub mod Complaints
+pub mod Requests
+pub mod Words
