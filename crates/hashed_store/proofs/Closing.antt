@@ -1,9 +1,10 @@
 -- One step of closing a hole, and the end of it.
 use Rattle.std.proofs.Common.{◌≡◌, ℕ, ◌<◌, ◌≤◌, List, length, set, sym, refl, ◌∙◌, arith, length-set, get_or-set_other, get_or-set_same, Some, None, Option}
+use Rattle.store.specs.Lists.{sorted}
+use Rattle.store.proofs.Sorting.{rising-sorted}
 use Rattle.hashed_store.specs.Rounds.{offset}
-use Rattle.hashed_store.specs.Slots.{held, sorted, slot_at, strayed}
+use Rattle.hashed_store.specs.Slots.{held, slot_at, strayed}
 use Rattle.hashed_store.specs.Holes.{OverHole, NoneOver, Kept, Holed}
-use Rattle.hashed_store.proofs.Sorted.{rising-sorted}
 use Rattle.hashed_store.proofs.Held.{record_of, taken_out, put_in}
 use Rattle.hashed_store.proofs.Meeting.{met-moved, met-closed, none_over}
 use Rattle.hashed_store.proofs.Spread.{spread, spread-falls}

@@ -3,8 +3,8 @@ use Rattle.std.proofs.Common.{◌≡◌, ℕ, zero, suc, List, [], ◌∷◌, fo
 use Rattle.std.proofs.lemmas.List.{reverse-append}
 use Rattle.std.proofs.lemmas.List.Sums.{fold-append}
 use Rattle.std.proofs.lemmas.Bool.Decides.{nat_tests}
-use Rattle.store.specs.Lists.{first_from, placed}
-use Rattle.hashed_store.specs.Slots.{held, sorted, nearer, nearest}
+use Rattle.store.specs.Lists.{first_from, placed, sorted}
+use Rattle.hashed_store.specs.Slots.{held, nearer, nearest}
 
 module _ {X : Type 0} (key : X → ℕ) where
   from-placed : (k : ℕ) (r : X) (xs : List X) → first_from key k (placed key r xs) ≡ nearer key k r (first_from key k xs)

@@ -1,6 +1,5 @@
 pub mod Powers
 pub mod Rounds
-pub mod Sorted
 pub mod Held
 pub mod Meeting
 pub mod Spread

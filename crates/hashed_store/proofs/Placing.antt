@@ -1,19 +1,19 @@
 -- From how a search ended to what is held, and from slots written to records in the order of their keys.
 use Rattle.std.proofs.Common.{◌≡◌, ℕ, suc, ◌<◌, ◌≤◌, true, false, leb, ◌⊎◌, List, [], ◌∷◌, length, set, is_some, Some, None, Ok, Err, Option, sym, refl, ap, ◌∙◌, subst, inr, arith, length-set, get_or-set_same, set-set}
 use Rattle.std.proofs.lemmas.Bool.{le-leb, lt-leb}
-use Rattle.store.specs.Lists.{lookup, holds, placed, replaced, without}
+use Rattle.store.specs.Lists.{lookup, holds, placed, replaced, without, sorted, Apart}
 use Rattle.store.specs.Models.{removing}
 use Rattle.store.specs.declared.refusal.ReplaceRefusal.TheVariants.{Missing}
 use Rattle.store.specs.declared.refusal.InsertRefusal.TheVariants.{Taken as Occupied, Full}
 use Rattle.store.proofs.Each.{Absent}
 use Rattle.store.proofs.Keyed.{lookup_absent, holds-absent, replaced-absent, without-absent}
 use Rattle.store.proofs.Placed.{lookup-placed, without-placed, replaced-placed}
+use Rattle.store.proofs.Sorting.{each-sorted, rising-sorted, length-sorted}
 use Rattle.hashed_store.specs.Rounds.{around}
-use Rattle.hashed_store.specs.Slots.{held, sorted, Apart, slot_at, home_of, Passed, Other}
+use Rattle.hashed_store.specs.Slots.{held, slot_at, home_of, Passed, Other}
 use Rattle.hashed_store.specs.Ways.{WentHere, WentToGap}
 use Rattle.hashed_store.specs.Holes.{Kept, Holed, Filled}
 use Rattle.hashed_store.specs.Places.{rows_of, model_of, span_of, PutIn, NotPut, Exchanged, Out, NoKey, Removed, Cleared}
-use Rattle.hashed_store.proofs.Sorted.{each-sorted, rising-sorted, length-sorted}
 use Rattle.hashed_store.proofs.Held.{record_of, taken_out, put_in, held-fewer, held-full, held-each}
 use Rattle.hashed_store.proofs.Rounds.{around-offset, offset-below}
 use Rattle.hashed_store.proofs.Meeting.{met-in, met-exchanged, met-out, absent-gap, absent-past, home_below}

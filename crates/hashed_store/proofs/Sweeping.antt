@@ -3,12 +3,12 @@ use Rattle.std.proofs.Common.{◌≡◌, ℕ, suc, ◌<◌, ◌≤◌, Bool, tru
 use Rattle.tally.specs.Joining.{joined_all}
 use Rattle.store.specs.Lists.{Each, those, others}
 use Rattle.store.proofs.Sweeps.{takings-none, takings-placed, others-placed, others-all}
+use Rattle.store.proofs.Sorting.{each-sorted}
 use Rattle.hashed_store.specs.Slots.{held, slot_at}
 use Rattle.hashed_store.specs.Holes.{Kept}
 use Rattle.hashed_store.specs.Places.{rows_of, Out}
 use Rattle.hashed_store.specs.Sweeps.{Sweeping}
 use Rattle.hashed_store.specs.declared.sweep.Swept.{Swept}
-use Rattle.hashed_store.proofs.Sorted.{each-sorted}
 use Rattle.hashed_store.proofs.Held.{each-held}
 
 -- part of the picked records are taken out and joined

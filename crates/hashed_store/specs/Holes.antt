@@ -1,8 +1,8 @@
 -- Closing a hole among the slots.
 use Rattle.std.specs.Prelude.{◌≡◌, ℕ, ◌<◌, ◌≤◌, ◌⊎◌, List, length, Some, None, Option}
-use Rattle.store.specs.Lists.{Rising}
+use Rattle.store.specs.Lists.{Rising, sorted, Apart}
 use Rattle.hashed_store.specs.Rounds.{around, offset}
-use Rattle.hashed_store.specs.Slots.{held, sorted, Apart, slot_at, AllMet, NoHole, HoleAt, Short}
+use Rattle.hashed_store.specs.Slots.{held, slot_at, AllMet, NoHole, HoleAt, Short}
 use Rattle.hashed_store.specs.Looks.{Over}
 
 -- a record that can move into the hole h

@@ -1,10 +1,10 @@
 -- What putting in, exchanging and taking out do to the slots, and to the records in the order of their keys.
 use Rattle.std.specs.Prelude.{◌≡◌, ℕ, suc, ◌+◌, ◌<◌, min, List, length, Some, None, Ok, Err, Option, Result}
-use Rattle.store.specs.Lists.{lookup, placed}
+use Rattle.store.specs.Lists.{lookup, placed, sorted}
 use Rattle.store.specs.Models.{Model, insert_says, inserted, replace_says, replacing, removing, emptied}
 use Rattle.store.specs.declared.refusal.InsertRefusal.{InsertRefusal}
 use Rattle.store.specs.declared.refusal.ReplaceRefusal.{ReplaceRefusal}
-use Rattle.hashed_store.specs.Slots.{held, sorted, slot_at}
+use Rattle.hashed_store.specs.Slots.{held, slot_at}
 use Rattle.hashed_store.specs.Holes.{Kept}
 
 -- the records held, in the order of their keys

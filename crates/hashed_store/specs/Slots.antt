@@ -1,7 +1,6 @@
 -- What the slots of a hashed store hold, and how they are kept.
 use Rattle.std.specs.Prelude.{◌≡◌, ℕ, ◌%◌, ◌<◌, ◌≤◌, cond, List, [], ◌∷◌, ◌++◌, Some, None, Option, IsSomeAnd, ◌≢◌, nat_lt, slice_index_or}
 use Rattle.std.specs.Option.{option_to_list}
-use Rattle.store.specs.Lists.{Each, placed}
 use Rattle.hashed_store.specs.Rounds.{around, offset}
 
 -- what all slots hold, from the first to the last
@@ -18,16 +17,6 @@ nearer key k r (Some x) = cond (nat_lt (key r) k) (Some x) (cond (nat_lt (key r)
 abbrev pub nearest : {X : Type 0} → (X → ℕ) → ℕ → Option X → Option X → Option X
 nearest key k None best = best
 nearest key k (Some r) best = nearer key k r best
-
--- records in any order, put in the order of their keys
-abbrev pub sorted : {X : Type 0} → (X → ℕ) → List X → List X
-sorted key [] = []
-sorted key (x ∷ xs) = placed key x (sorted key xs)
-
--- no two records have one key
-abbrev pub Apart : {X : Type 0} → (X → ℕ) → List X → Type 0
-Apart key [] = Unit {0}
-Apart key (x ∷ xs) = Each (λ y. key y ≢ key x) xs × Apart key xs
 
 -- the slot at a place
 abbrev pub slot_at : {X : Type 0} → List (Option X) → ℕ → Option X

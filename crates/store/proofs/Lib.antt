@@ -3,9 +3,12 @@ pub mod Each
 pub mod Keyed
 pub mod Picking
 pub mod Placed
+pub mod Sorting
+pub mod Reorderings
 pub mod Sweeps
 pub mod Walking
 pub mod Default
+pub mod Gathering
 pub mod Listing
 pub mod Lookups
 pub mod Ruling

@@ -1,7 +1,6 @@
 -- Going from key to key, and writing what is found into the part of a row that it fills.
-use Rattle.std.proofs.Common.{◌≡◌, ℕ, ◌+◌, ◌-◌, ◌^◌, ◌<◌, min, false, inr, List, [], ◌∷◌, ◌++◌, length, Some, None, take, drop, set, sym, refl, ap, ◌∙◌, arith}
-use Rattle.std.proofs.lemmas.List.{take_more_set, take-append-le, drop_at}
-use Rattle.store.specs.Clients.{Listed}
+use Rattle.std.proofs.Common.{◌≡◌, ℕ, ◌+◌, ◌-◌, ◌^◌, ◌<◌, min, false, inr, List, [], ◌∷◌, ◌++◌, length, Some, None, take, set, sym, refl, ap, ◌∙◌, arith}
+use Rattle.std.proofs.lemmas.List.{take_more_set, take_all}
 use Rattle.store.specs.Lists.{Rising, first_from}
 use Rattle.store.specs.Models.{Model}
 use Rattle.store.proofs.Default.{SweptTo, swept-starts, swept_more, swept-on, one-more}
@@ -33,10 +32,6 @@ module _ {X : Type 0} (key : X → ℕ) (narrow : (x : X) → key x < 2 ^ 64) (m
     }
 
 -- the part is full
-pub listing-ends : {X : Type 0} (key : X → ℕ) (m : Model X) (was part : List X) (k n turns : ℕ) → n ≡ min (length was) (length m.rows) → length part ≡ n → turns ≡ n → Listing key m part k turns
-    → Listed m.rows was (part ++ drop n was) n
-listing-ends key m was part k n turns e size all l = record {
-  count = omega arith;
-  list = take-append-le n part (drop n was) (omega arith) ∙ rw all at l.written;
-  past = drop_at part (drop n was) n size;
-}
+pub listing-ends : {X : Type 0} (key : X → ℕ) (m : Model X) (part : List X) (k n turns : ℕ) → length part ≡ n → turns ≡ n → Listing key m part k turns → part ≡ take n m.rows
+listing-ends key m part k n turns size all l =
+    sym (take_all turns part (omega arith)) ∙ l.written ∙ ap (λ t. take t m.rows) all

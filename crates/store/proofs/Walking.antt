@@ -1,9 +1,11 @@
 -- A walk through the records in a store's own order.
-use Rattle.std.proofs.Common.{◌≡◌, ℕ, suc, ◌+◌, ◌-◌, ◌≤◌, List, [], ◌∷◌, map, length, sym, refl, ap, ◌∙◌, arith}
+use Rattle.std.proofs.Common.{◌≡◌, ℕ, suc, ◌+◌, ◌-◌, ◌≤◌, List, [], ◌∷◌, map, length, Some, Option, sym, refl, ap, ◌∙◌, arith}
 use mathlib.Core.List.Permᴰ
 use mathlib.Core.List.{Permᴰ}
 use Rattle.std.proofs.lemmas.List.{nil_from_length}
 use Rattle.tally.specs.Joining.{joined_all, JoinedInEveryOrder}
+use Rattle.store.specs.declared.visit.Visit.{Visit}
+use Rattle.store.specs.Visits.{Visited, rest}
 use Rattle.tally.proofs.Laws.{joined-permuted, neutral-right, in-every-order}
 
 pub permuted-length : {X : Type 0} {xs ys : List X} → Permᴰ xs ys → length xs ≡ length ys
@@ -11,6 +13,10 @@ permuted-length Permᴰ.nil = refl
 permuted-length (Permᴰ.cons e p) = ap suc (permuted-length p)
 permuted-length (Permᴰ.swap e f) = refl
 permuted-length (Permᴰ.trans p q) = permuted-length p ∙ permuted-length q
+
+-- what a visit saw: the record, and then what is to come from where it says to go on
+pub seen : {X : Type 0} (ahead : ℕ → List X) (p : ℕ) (v : Visit X) (next : Option ℕ) → Visited ahead p (Some v) → v.next ≡ next → ahead p ≡ v.record ∷ rest ahead next
+seen ahead p v next met e = met ∙ ap (λ o. v.record ∷ rest ahead o) e
 
 -- what was met, with what is to come, is the whole
 pub record Walked {X M : Type 0} (given : X → M) (none : M) (joining : M → M → M) (rows coming : List X) (met : M) (left : ℕ) : Type 0 where

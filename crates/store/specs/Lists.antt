@@ -1,5 +1,5 @@
 -- Lists of records with rising keys, by the key that a record has.
-use Rattle.std.specs.Prelude.{ℕ, ◌+◌, ◌<◌, Bool, cond, List, [], ◌∷◌, is_some, Some, None, Option, ◌==◌, nat_le, nat_lt}
+use Rattle.std.specs.Prelude.{ℕ, ◌+◌, ◌<◌, Bool, cond, List, [], ◌∷◌, is_some, Some, None, Option, ◌≢◌, ◌==◌, nat_le, nat_lt}
 
 -- P holds of each record
 abbrev pub Each : {X : Type 0} → (X → Type 0) → List X → Type 0
@@ -10,6 +10,11 @@ Each P (x ∷ xs) = P x × Each P xs
 abbrev pub Rising : {X : Type 0} → (X → ℕ) → List X → Type 0
 Rising key [] = Unit {0}
 Rising key (x ∷ xs) = Each (λ y. key x < key y) xs × Rising key xs
+
+-- no two records have one key
+abbrev pub Apart : {X : Type 0} → (X → ℕ) → List X → Type 0
+Apart key [] = Unit {0}
+Apart key (x ∷ xs) = Each (λ y. key y ≢ key x) xs × Apart key xs
 
 -- the record with the key k
 abbrev pub lookup : {X : Type 0} → (X → ℕ) → ℕ → List X → Option X
@@ -29,6 +34,11 @@ first_from key k (x ∷ xs) = cond (nat_le k (key x)) (Some x) (first_from key k
 abbrev pub placed : {X : Type 0} → (X → ℕ) → X → List X → List X
 placed key r [] = r ∷ []
 placed key r (x ∷ xs) = cond (nat_lt (key r) (key x)) (r ∷ (x ∷ xs)) (x ∷ placed key r xs)
+
+-- records in any order, put in the order of their keys
+abbrev pub sorted : {X : Type 0} → (X → ℕ) → List X → List X
+sorted key [] = []
+sorted key (x ∷ xs) = placed key x (sorted key xs)
 
 -- with the record r in the place of the one that has its key
 abbrev pub replaced : {X : Type 0} → (X → ℕ) → X → List X → List X

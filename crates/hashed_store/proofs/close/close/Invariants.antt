@@ -1,6 +1,7 @@
 use Rattle.std.proofs.Common.{◌≡◌, ◌<◌, length}
+use Rattle.store.specs.Lists.{sorted}
 use Rattle.hashed_store.specs.Holes.{Holed}
-use Rattle.hashed_store.specs.Slots.{held, sorted}
+use Rattle.hashed_store.specs.Slots.{held}
 use Rattle.hashed_store.proofs.Spread.{spread}
 use Rattle.hashed_store.proofs.close.close.Given as goal
 

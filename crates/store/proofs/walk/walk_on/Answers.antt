@@ -1,6 +1,5 @@
-use Rattle.std.proofs.Common.{◌∷◌, ap, ◌∙◌, arith}
-use Rattle.store.specs.Visits.{rest}
-use Rattle.store.proofs.Walking.{walk-starts, walk-on, walk_ends, walk-done, walk-last}
+use Rattle.std.proofs.Common.{arith}
+use Rattle.store.proofs.Walking.{seen, walk-starts, walk-on, walk_ends, walk-done, walk-last}
 use Rattle.store.proofs.walk.walk_on.Goals as goal
 
 pub loop-turn-init : goal.loop-turn-init
@@ -12,10 +11,9 @@ loop-turn-init g c rows ready covers counted =
 pub loop-turn-preserved : goal.loop-turn-preserved
 loop-turn-preserved g c rows ready covers counted =
     let law = g.met.M.Out.Tally in
-    let seen = c.in-Some.ensures ready ∙ ap (λ o. c.in-Some.visit.record ∷ rest (g.S.Store.ahead c.args.store.now) o) c.in-Some-next.is in
     rw (c.join-met.ensures, c.of.ensures)
     (walk-on (g.M.Measure.given c.args.measure.now) g.M.Out.Tally.none g.M.Out.Tally.joining law.associative law.commutative law.neutral rows _ _ _ _ _ _
-    seen (omega arith) (c.loop-turn.invariant rows ready covers counted))
+    (seen _ _ c.in-Some.visit _ (c.in-Some.ensures ready) c.in-Some-next.is) (omega arith) (c.loop-turn.invariant rows ready covers counted))
 
 pub returns-in_default : goal.returns-in_default
 returns-in_default g c rows ready covers counted =
@@ -26,10 +24,9 @@ returns-in_default g c rows ready covers counted =
 pub returns-in_default-next : goal.returns-in_default-next
 returns-in_default-next g c rows ready covers counted =
     let law = g.met.M.Out.Tally in
-    let seen = c.in-Some.ensures ready ∙ ap (λ o. c.in-Some.visit.record ∷ rest (g.S.Store.ahead c.args.store.now) o) c.in_default-next.is in
     rw (c.join-met.ensures, c.of.ensures)
     (walk-last (g.M.Measure.given c.args.measure.now) g.M.Out.Tally.none g.M.Out.Tally.joining law.associative law.commutative law.neutral rows _ _ _ _
-    seen (c.loop-turn.invariant rows ready covers counted))
+    (seen _ _ c.in-Some.visit _ (c.in-Some.ensures ready) c.in_default-next.is) (c.loop-turn.invariant rows ready covers counted))
 
 pub returns : goal.returns
 returns g c rows ready covers counted =

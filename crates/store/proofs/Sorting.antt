@@ -1,10 +1,9 @@
 -- Records with keys apart, in any order: one more or one less, and what that does to them in the order of their keys.
 use Rattle.std.proofs.Common.{◌≡◌, ℕ, suc, List, [], ◌∷◌, ◌++◌, length, sym, refl, ap, ◌∙◌}
 use mathlib.Core.List.{Permᴰ}
-use Rattle.store.specs.Lists.{Each, Rising, placed}
+use Rattle.store.specs.Lists.{Each, Rising, Apart, placed, sorted}
 use Rattle.store.proofs.Each.{Absent, each-join, each-front, each_back}
 use Rattle.store.proofs.Placed.{each_placed, rising-placed, permuted-placed, length-placed, placed-apart}
-use Rattle.hashed_store.specs.Slots.{sorted, Apart}
 
 module _ {X : Type 0} (key : X → ℕ) where
   pub each-sorted : (P : X → Type 0) (xs : List X) → Each P xs → Each P (sorted key xs)
