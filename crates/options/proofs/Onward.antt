@@ -1,12 +1,9 @@
 -- Words that are read one after the other.
-use Rattle.std.proofs.Common.{◌≡◌, ℕ, ◌+◌, ◌<◌, ◌≤◌, List, [], ◌∷◌, length, map, get_or, drop, Ok, Err, Result, sym, refl, ap, ◌∙◌, arith}
+use Rattle.std.proofs.Common.{◌≡◌, ℕ, ◌+◌, ◌<◌, ◌≤◌, List, ◌∷◌, length, map, get_or, drop, sym, ap, ◌∙◌, arith}
 use Rattle.std.proofs.lemmas.List.{drop-map, drop_all, length-map}
 use Rattle.std.proofs.Math.Seq.{drop-cons}
 use native.Mathlib.Numerals.{unary_clauses}
-use Rattle.options.specs.declared.mistake.Mistake.{Mistake}
-use Rattle.options.specs.declared.mistake.Wrong.{Wrong}
 use Rattle.options.specs.declared.request.Reading.{Reading}
-use Rattle.options.specs.declared.request.Request.{Request}
 use Rattle.options.specs.Requests.{one_read, read_to_end, unless_wrong, words_read}
 
 module _ {X : Type 0} (text : X → List ℕ) (words : List X) (n : ℕ) (r : Reading) where

@@ -26,8 +26,8 @@ returns-in-executions c = rw (text_from_reads c.args.name.now (codes "executions
 pub returns-in-symbols : goal.returns-in-symbols
 returns-in-symbols c = rw (text_from_reads c.args.name.now (codes "symbols") (omega arith) (search rules)) refl
 
-pub returns-in-day-limit : goal.returns-in-day-limit
-returns-in-day-limit c = rw (text_from_reads c.args.name.now (codes "day-limit") (omega arith) (search rules)) refl
+pub returns-in-100 : goal.returns-in-100
+returns-in-100 c = rw (text_from_reads c.args.name.now (codes "day-limit") (omega arith) (search rules)) refl
 
 pub returns-in-book : goal.returns-in-book
 returns-in-book c = rw (text_from_reads c.args.name.now (codes "book") (omega arith) (search rules)) refl
