@@ -1,5 +1,5 @@
 -- What is counted, line by line.
-use Rattle.std.proofs.Common.{◌≡◌, ℕ, ◌+◌, ◌-◌, ◌^◌, ◌<◌, ◌≤◌, List, [], ◌∷◌, length, replicate, Ok, Err, Result, sym, refl, subst, ◌∙◌, ⊎_elim, arith, eq-eqb, ne_eqb, length-set}
+use Rattle.std.proofs.Common.{◌≡◌, ℕ, zero, suc, ◌+◌, ◌-◌, ◌^◌, ◌<◌, ◌≤◌, List, [], ◌∷◌, length, replicate, Ok, Err, Result, sym, refl, ap, subst, ◌∙◌, ⊎_elim, arith, eq-eqb, ne_eqb, length-set}
 use Rattle.std.proofs.lemmas.Bool.{cases_eq, cases_lt}
 use Rattle.std.proofs.lemmas.List.{get_or-set_same, get_or-set_other, get_or-replicate, get_or_past}
 use Rattle.day_rules.specs.declared.fault.LedgerFault.{LedgerFault}
@@ -8,7 +8,7 @@ use Rattle.day_rules.proofs.Numbers.{number_small}
 use Rattle.day_rules.specs.Faults.{refusal_number}
 use Rattle.day_rules.specs.Lines.{times_refused}
 use Rattle.day_lines.specs.declared.seen.Seen.{Seen}
-use Rattle.day_lines.specs.Seen.{at_most, count_at, counted, answer_counted, none_seen, one_seen, IsSeen}
+use Rattle.day_lines.specs.Seen.{at_most, count_at, counted, answer_counted, none_seen, one_seen, times_from, IsSeen}
 
 -- after all answers
 abbrev pub all_seen : List (Result Outcome LedgerFault) → Seen → Seen
@@ -68,9 +68,27 @@ refusals-seen (a ∷ answers) s n held =
 none_counted : (n : ℕ) → count_at n (replicate 15 0) ≡ 0
 none_counted n = ⊎_elim (λ l. get_or-replicate 15 n 0 0 l) (λ l. get_or_past (replicate 15 0) n 0 l) (cases_lt n 15)
 
+counts_hold : (answers : List (Result Outcome LedgerFault)) (s : Seen) → Counts s.refusals.counts → Counts (all_seen answers s).refusals.counts
+counts_hold [] s held = held
+counts_hold (a ∷ answers) s held = counts_hold answers (one_seen a s) (answer-holds a s.refusals.counts held)
+
+-- counts that are so one by one
+all_times : (counts : List ℕ) (count n : ℕ) (answers : List (Result Outcome LedgerFault)) → length counts ≡ count
+    → ((i : ℕ) → i < count → count_at i counts ≡ at_most (times_refused (n + i) answers)) → counts ≡ times_from count n answers
+all_times [] zero n answers size each = refl
+all_times [] (suc count) n answers size each = absurd (omega arith)
+all_times (x ∷ counts) zero n answers size each = absurd (omega arith)
+all_times (x ∷ counts) (suc count) n answers size each =
+    let here : x ≡ at_most (times_refused n answers) = each 0 (omega arith) ∙ ap (λ m. at_most (times_refused m answers)) (let z : n + 0 ≡ n = omega arith in z) in
+    let others : counts ≡ times_from count (n + 1) answers =
+    all_times counts count (n + 1) answers (omega arith) (λ i l. each (suc i) (omega arith) ∙ ap (λ m. at_most (times_refused m answers)) (let z : n + suc i ≡ n + 1 + i = omega arith in z)) in
+    λ i. here i ∷ others i
+
 pub all_counted : (answers : List (Result Outcome LedgerFault)) → IsSeen (all_seen answers none_seen) answers
 all_counted answers =
     let held : Counts none_seen.refusals.counts = record { places = refl; narrow = λ n. let z = none_counted n in omega arith } in record {
       lines = let h = lines-seen answers none_seen (omega arith) in omega (arith, h);
-      refusals = λ n small. let h = refusals-seen answers none_seen n held in let z = none_counted n in omega (arith, h, z);
+      refusals =
+          all_times (all_seen answers none_seen).refusals.counts 15 0 answers (counts_hold answers none_seen held).places
+          (λ n small. let h = refusals-seen answers none_seen n held in let z = none_counted n in let e : 0 + n ≡ n = omega arith in rw e (omega (arith, h, z)));
     }

@@ -1,5 +1,5 @@
 -- What became of lines: how many there were, and how often each refusal came.
-use Rattle.std.specs.Prelude.{◌≡◌, ℕ, ◌<◌, ◌^◌, ◌-◌, List, length, min, replicate, Ok, Err, Result, slice_index_or, slice_set}
+use Rattle.std.specs.Prelude.{◌≡◌, ℕ, zero, suc, ◌+◌, ◌^◌, ◌-◌, List, [], ◌∷◌, length, min, replicate, Ok, Err, Result, slice_index_or, slice_set}
 use Rattle.capture.specs.Counts.{more}
 use Rattle.day_rules.specs.declared.fault.LedgerFault.{LedgerFault}
 use Rattle.day_rules.specs.declared.outcome.Outcome.{Outcome}
@@ -30,7 +30,12 @@ answer_counted (Err fault) counts = counted (refusal_number fault) counts
 abbrev pub one_seen : Result Outcome LedgerFault → Seen → Seen
 one_seen a s = record { lines = record { lines = more s.lines.lines }; refusals = record { counts = answer_counted a s.refusals.counts } }
 
--- all lines with these answers were seen: there are as many, and each refusal came as often as it is among the answers
+-- how often each of so many refusals came, by their numbers from n on
+abbrev pub times_from : (count n : ℕ) → List (Result Outcome LedgerFault) → List ℕ
+times_from zero n answers = []
+times_from (suc count) n answers = at_most (times_refused n answers) ∷ times_from count (n + 1) answers
+
+-- all lines with these answers were seen: there are as many, and each refusal came as often as it is among the answers; 14 is the greatest number of one
 pub record IsSeen (s : Seen) (answers : List (Result Outcome LedgerFault)) : Type 0 where
   pub lines : s.lines.lines ≡ at_most (length answers)
-  pub refusals : (n : ℕ) → n < 15 → count_at n s.refusals.counts ≡ at_most (times_refused n answers)
+  pub refusals : s.refusals.counts ≡ times_from 15 0 answers
