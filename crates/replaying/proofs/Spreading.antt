@@ -1,5 +1,5 @@
 -- Trying divisors and numbers one after the other.
-use Rattle.std.proofs.Common.{◌≡◌, ℕ, zero, suc, ◌+◌, ◌-◌, ◌<◌, ◌≤◌, true, false, cond, refl, ap, ◌∙◌, arith}
+use Rattle.std.proofs.Common.{◌≡◌, ℕ, suc, ◌+◌, ◌-◌, ◌<◌, ◌≤◌, true, false, cond, refl, ap, ◌∙◌, arith}
 use Rattle.replaying.specs.Spreads.{divides, divides_some, is_divided, up_to, undivided_of, undivided_from}
 
 pub divisor_tried : (d n : ℕ) → d < 256 → divides_some (256 - d) d n ≡ cond (divides d n) true (divides_some (256 - (d + 1)) (d + 1) n)

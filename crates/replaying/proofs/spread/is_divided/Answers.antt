@@ -1,5 +1,5 @@
-use Rattle.std.proofs.Common.{◌≡◌, ◌+◌, ◌-◌, true, false, cond, sym, ap, ◌∙◌, arith}
-use Rattle.replaying.specs.Spreads.{divides, divides_some}
+use Rattle.std.proofs.Common.{◌+◌, ◌-◌, true, cond, sym, ap, ◌∙◌, arith}
+use Rattle.replaying.specs.Spreads.{divides_some}
 use Rattle.replaying.proofs.Spreading.{divisor_tried, divisors_start, divisors_over}
 use Rattle.replaying.proofs.spread.is_divided.Goals as goal
 

@@ -1,4 +1,4 @@
-use Rattle.std.proofs.Common.{◌≡◌, ◌+◌, ◌-◌, cond, sym, ap, ◌∙◌, arith}
+use Rattle.std.proofs.Common.{◌+◌, ◌-◌, cond, sym, ap, ◌∙◌, arith}
 use Rattle.replaying.specs.Spreads.{is_divided, up_to, undivided_of}
 use Rattle.replaying.proofs.Spreading.{number_tried, numbers_start, numbers_over}
 use Rattle.replaying.proofs.spread.undivided.Goals as goal

@@ -1,0 +1,24 @@
+-- How much of an input has passed, how fast, and how that is shown.
+use Rattle.std.specs.Prelude.{ℕ, ◌+◌, ◌-◌, ◌*◌, ◌/◌, ◌%◌, ◌^◌, cond, List, [], ◌∷◌, ◌++◌, length, min, codes, decimal, ◌==◌}
+use Rattle.std.specs.List.{filter}
+use Rattle.progress.specs.declared.pace.Passed.{Passed}
+
+abbrev pub at_most : ℕ → ℕ
+at_most n = min n (2 ^ 64 - 1)
+
+abbrev pub passed_with : (bytes lines : ℕ) → Passed → Passed
+passed_with bytes lines p = record { lines = at_most (p.lines + lines); bytes = at_most (p.bytes + bytes) }
+
+abbrev pub per_second : (count nanos : ℕ) → ℕ
+per_second count nanos = cond (nanos == 0) 0 (count * 1000000000 / nanos)
+
+-- the line ends among bytes
+abbrev pub ends_among : List ℕ → ℕ
+ends_among bytes = length (filter (λ b. b == 10) bytes)
+
+abbrev pub progress_text : (lines bytes nanos : ℕ) → List ℕ
+progress_text lines bytes nanos =
+    decimal lines
+    ++ (codes " lines, "
+    ++ (decimal (bytes / 1000000)
+    ++ (codes "." ++ (decimal (bytes / 100000 % 10) ++ (codes " MB, " ++ (decimal (per_second lines nanos) ++ codes " lines a second"))))))

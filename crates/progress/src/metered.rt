@@ -1,0 +1,81 @@
+// A reader that tells how far it is, about every second, somewhere else than where the program writes.
+ghost use Rattle.std.specs.Prelude.{◌≡◌};
+ghost use Rattle.progress.specs.Paces.{ends_among};
+
+use crate::form::ProgressForm;
+use crate::pace::Passed;
+use std::io;
+use std::io::{Read, Write};
+use std::time::{Clock, Instant};
+
+// Nanoseconds between two words.
+const PAUSE: u64 = 1_000_000_000;
+
+// Gives the bytes of the reader within as they are. Where the clock or the writing fails, nothing is told and reading goes on.
+#[derive(Drop)]
+pub struct Metered<R, C, E> {
+    inner: R,
+    clock: C,
+    told: E,
+    passed: Passed,
+    start: Option<Instant>,
+    // when something was told last, in nanoseconds from the start
+    last: u64,
+}
+
+impl<R: Read, C: Clock, E: Write> Metered<R, C, E> {
+    // Starts now; if quiet, nothing is ever told.
+    pub fn new(inner: R, clock: C, told: E, quiet: bool) -> Metered<R, C, E>
+        ensures { result.inner ≡ inner }
+    {
+        let start = if quiet {
+            None
+        } else {
+            Instant::now(&clock).ok()
+        };
+        Metered {
+            inner,
+            clock,
+            told,
+            passed: Passed::default(),
+            start,
+            last: 0,
+        }
+    }
+
+    fn tell(&mut self, bytes: &[u8])
+        ensures { self.new.inner ≡ self.old.inner }
+    {
+        let Some(start) = self.start else {
+            return;
+        };
+        self.passed = self.passed.with(bytes.len() as u64, line_ends(bytes));
+        let Ok(elapsed) = start.elapsed(&self.clock) else {
+            return;
+        };
+        let nanos = elapsed.as_nanos().min(u128::from(u64::MAX)) as u64;
+        if nanos.saturating_sub(self.last) < PAUSE {
+            return;
+        }
+        self.last = nanos;
+        let passed = self.passed;
+        let _ = writeln!(self.told, "{}", ProgressForm { passed, nanos });
+    }
+}
+
+impl<R: Read, C: Clock, E: Write> Read for Metered<R, C, E> {
+    ghost remaining = { λ m. R.remaining m.inner };
+
+    fn read(&mut self, buf: &mut [u8]) -> io::Result<usize> {
+        let count = self.inner.read(buf)?;
+        self.tell(&buf[..count]);
+        Ok(count)
+    }
+}
+
+// How many lines end among the bytes.
+fn line_ends(bytes: &[u8]) -> u64
+    ensures { result ≡ ends_among bytes.now }
+{
+    bytes.iter().filter(|byte| **byte == b'\n').count() as u64
+}
