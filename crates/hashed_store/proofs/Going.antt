@@ -1,10 +1,8 @@
 -- Going through all slots.
-use Rattle.std.proofs.Common.{◌≡◌, ℕ, zero, suc, List, [], ◌∷◌, fold, replicate, reverse, Some, None, Option, sym, refl, ap, ◌∙◌, arith}
-use Rattle.std.proofs.lemmas.List.{reverse-append}
-use Rattle.std.proofs.lemmas.List.Sums.{fold-append}
+use Rattle.std.proofs.Common.{◌≡◌, ℕ, zero, suc, ◌<◌, List, [], ◌∷◌, drop, length, replicate, Some, None, Option, sym, refl, arith}
 use Rattle.std.proofs.lemmas.Bool.Decides.{nat_tests}
 use Rattle.store.specs.Lists.{first_from, placed}
-use Rattle.hashed_store.specs.Slots.{held, sorted, nearer, nearest}
+use Rattle.hashed_store.specs.Slots.{held, sorted, slot_at, nearer, nearest}
 
 module _ {X : Type 0} (key : X → ℕ) where
   from-placed : (k : ℕ) (r : X) (xs : List X) → first_from key k (placed key r xs) ≡ nearer key k r (first_from key k xs)
@@ -16,11 +14,11 @@ module _ {X : Type 0} (key : X → ℕ) where
   from_cons k (Some r) ss = from-placed k r (sorted key (held ss))
 
   -- from the last slot to the first
-  pub from-last : (k : ℕ) (ss : List (Option X)) → fold (λ best s. nearest key k s best) None (reverse ss) ≡ first_from key k (sorted key (held ss))
-  from-last k [] = refl
-  from-last k (s ∷ ss) =
-      let h = λ (best s : Option X). nearest key k s best in
-      ap (fold h None) (reverse-append (s ∷ []) ss) ∙ fold-append h None (reverse ss) (s ∷ []) ∙ ap (λ best. nearest key k s best) (from-last k ss) ∙ sym (from_cons k s ss)
+  pub from-slot : (k : ℕ) (ss : List (Option X)) (i next : ℕ) → next ≡ suc i → i < length ss
+      → nearest key k (slot_at ss i) (first_from key k (sorted key (held (drop next ss)))) ≡ first_from key k (sorted key (held (drop i ss)))
+  from-slot k [] i next e h = absurd (omega arith)
+  from-slot k (s ∷ ss) zero next e h = rw e (sym (from_cons k s ss))
+  from-slot k (s ∷ ss) (suc i) next e h = rw e (from-slot k ss i (suc i) refl (omega arith))
 
 module _ {X : Type 0} where
   pub held-blank : (n : ℕ) → held {X = X} (replicate n None) ≡ []
