@@ -1,5 +1,5 @@
 -- Going through all slots.
-use Rattle.std.proofs.Common.{◌≡◌, ℕ, zero, suc, ◌<◌, List, [], ◌∷◌, drop, length, replicate, Some, None, Option, sym, refl, arith}
+use Rattle.std.proofs.Common.{◌≡◌, ℕ, zero, suc, ◌-◌, ◌<◌, ◌≤◌, Bool, cond, List, [], ◌∷◌, drop, length, replicate, Some, None, Option, sym, refl, ◌∙◌, arith}
 use Rattle.std.proofs.lemmas.Bool.Decides.{nat_tests}
 use Rattle.store.specs.Lists.{first_from, placed}
 use Rattle.hashed_store.specs.Slots.{held, sorted, slot_at, nearer, nearest}
@@ -14,11 +14,17 @@ module _ {X : Type 0} (key : X → ℕ) where
   from_cons k (Some r) ss = from-placed k r (sorted key (held ss))
 
   -- from the last slot to the first
-  pub from-slot : (k : ℕ) (ss : List (Option X)) (i next : ℕ) → next ≡ suc i → i < length ss
+  from-slot : (k : ℕ) (ss : List (Option X)) (i next : ℕ) → next ≡ suc i → i < length ss
       → nearest key k (slot_at ss i) (first_from key k (sorted key (held (drop next ss)))) ≡ first_from key k (sorted key (held (drop i ss)))
   from-slot k [] i next e h = absurd (omega arith)
   from-slot k (s ∷ ss) zero next e h = rw e (sym (from_cons k s ss))
   from-slot k (s ∷ ss) (suc i) next e h = rw e (from-slot k ss i (suc i) refl (omega arith))
+
+  -- the best from a place on is the best from the place before it where a test tells which of the two is nearer
+  pub from-best : (k : ℕ) (ss : List (Option X)) (place : ℕ) {found best : Option X} (b : Bool) → found ≡ slot_at ss (place - 1)
+      → best ≡ first_from key k (sorted key (held (drop place ss))) → 0 < place → place ≤ length ss → cond b found best ≡ nearest key k found best
+      → cond b found best ≡ first_from key k (sorted key (held (drop (place - 1) ss)))
+  from-best k ss place b f e n h t = t ∙ rw (f, e) (from-slot k ss (place - 1) place (omega arith) (omega arith))
 
 module _ {X : Type 0} where
   pub held-blank : (n : ℕ) → held {X = X} (replicate n None) ≡ []

@@ -1,5 +1,5 @@
 // Going through all slots: for the least key, for the next record, and to empty them.
-ghost use Rattle.std.specs.Prelude.{◌≡◌, length, drop};
+ghost use Rattle.std.specs.Prelude.{◌≡◌, cond, length, drop};
 ghost use Rattle.store.specs.Lists.{first_from};
 ghost use Rattle.store.specs.Visits.{Visited, Covers};
 ghost use Rattle.hashed_store.specs.Places.{rows_of, Cleared};
@@ -16,21 +16,24 @@ pub(crate) fn least_from<R: Record>(slots: &Slots<'_, R>, key: u64) -> Option<R>
     // No `filter` and `min_by_key`: no proof of their answer was found in three tries.
     let mut best = None;
     for place in (0..slots.len()).rev() {
-        best = nearer(slots.get(place), key, best);
+        let found = slots.get(place);
+        // Not `best = nearer(..)`: that would copy the best at every slot.
+        if is_nearer(found, key, best) {
+            best = found;
+        }
     }
     best
 }
 
-// A record where it is nearer to a key from above than the best so far.
-fn nearer<R: Record>(found: Option<R>, key: u64, best: Option<R>) -> Option<R>
-    ensures { result ≡ nearest R.Record.key key found best }
+// Whether a record is nearer to a key from above than the best so far.
+fn is_nearer<R: Record>(found: Option<R>, key: u64, best: Option<R>) -> bool
+    ensures { cond result found best ≡ nearest R.Record.key key found best }
 {
-    match found {
-        Some(held) if held.key() >= key => match best {
-            Some(other) if other.key() <= held.key() => best,
-            _ => found,
-        },
-        _ => best,
+    match (found, best) {
+        (None, _) => false,
+        (Some(held), None) => held.key() >= key,
+        // Both tests at once, since both together seldom hold, and each alone often does.
+        (Some(held), Some(other)) => (held.key() >= key) & (held.key() < other.key()),
     }
 }
 
