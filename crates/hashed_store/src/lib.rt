@@ -7,6 +7,6 @@ mod least;
 pub mod meaning;
 mod place;
 mod round;
-pub mod slots;
+mod slots;
 mod sweep;
 mod way;

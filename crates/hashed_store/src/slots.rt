@@ -7,7 +7,7 @@ ghost use Rattle.hashed_store.specs.Slots.{slot_at};
 use std::marker::Model;
 
 #[derive(Drop)]
-pub struct Slots<'a, R> {
+pub(crate) struct Slots<'a, R> {
     used: &'a mut [bool],
     rows: &'a mut [R],
 }
@@ -35,7 +35,6 @@ impl<'a, R: Copy> Slots<'a, R> {
         self.used.len().min(self.rows.len())
     }
 
-    #[inline(always)]
     pub(crate) fn get(&self, place: usize) -> Option<R>
         requires { place < length self.now }
         ensures { result ≡ slot_at self.now place }
@@ -43,7 +42,6 @@ impl<'a, R: Copy> Slots<'a, R> {
         read(self.used, self.rows, place)
     }
 
-    #[inline(always)]
     pub(crate) fn set(&mut self, place: usize, slot: Option<R>)
         requires { place < length self.old }
         ensures { self.new ≡ slice_set self.old place slot }
@@ -52,7 +50,6 @@ impl<'a, R: Copy> Slots<'a, R> {
     }
 
     // Takes what a slot holds out of it.
-    #[inline(always)]
     pub(crate) fn take(&mut self, place: usize) -> Option<R>
         requires { place < length self.old }
         ensures is { result ≡ slot_at self.old place }
@@ -71,7 +68,6 @@ impl<'a, R: Copy> Slots<'a, R> {
     }
 }
 
-#[inline(always)]
 #[tactic(auto, using(crate::proofs::Lent::below_used, crate::proofs::Lent::below_rows, crate::proofs::Lent::used_slot, crate::proofs::Lent::empty_slot))]
 fn read<R: Copy>(used: &[bool], rows: &[R], place: usize) -> Option<R>
     requires { place < length (slots_of used.now rows.now) }
@@ -80,7 +76,6 @@ fn read<R: Copy>(used: &[bool], rows: &[R], place: usize) -> Option<R>
     if used[place] { Some(rows[place]) } else { None }
 }
 
-#[inline(always)]
 #[tactic(auto, using(crate::proofs::Lent::below_used, crate::proofs::Lent::below_rows, crate::proofs::Lent::filled_slots, crate::proofs::Lent::emptied_slots))]
 fn write<R: Copy>(used: &mut [bool], rows: &mut [R], place: usize, slot: Option<R>)
     requires { place < length (slots_of used.old rows.old) }
