@@ -57,8 +57,12 @@ impl<'a> Bench<'a> {
                 self.run_over(kind, RowStore::new(rows.as_mut_slice()))?;
             }
             Kind::Hashed | Kind::FrontHashed => {
-                let mut slots = vec![in self.rt.alloc(); None; slots]?;
-                self.run_over(kind, HashedStore::new(slots.as_mut_slice()))?;
+                let mut used = vec![in self.rt.alloc(); false; slots]?;
+                let mut rows = vec![in self.rt.alloc(); Order::BLANK; slots]?;
+                self.run_over(
+                    kind,
+                    HashedStore::new(used.as_mut_slice(), rows.as_mut_slice()),
+                )?;
             }
         }
         Ok(())

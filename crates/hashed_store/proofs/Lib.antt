@@ -1,5 +1,6 @@
 pub mod Powers
 pub mod Rounds
+pub mod Lent
 pub mod Held
 pub mod Meeting
 pub mod Spread

@@ -1,5 +1,6 @@
 pub mod Rounds
 pub mod Slots
+pub mod Lent
 pub mod Looks
 pub mod Ways
 pub mod Holes

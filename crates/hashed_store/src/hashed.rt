@@ -1,12 +1,14 @@
 // The store: lent slots, and what is kept beside them.
 ghost use Rattle.std.specs.Prelude.{◌≡◌, length};
+ghost use Rattle.hashed_store.specs.Lent.{slots_of};
 
+use crate::slots::Slots;
 use store::record::Record;
 use store::store::Store;
 
 #[derive(Drop)]
 pub struct HashedStore<'a, R> {
-    pub(crate) slots: &'a mut [Option<R>],
+    pub(crate) slots: Slots<'a, R>,
     pub(crate) count: usize,
     // no record has been farther than this from its home since the last emptying: a search need not go farther
     pub(crate) reach: usize,
@@ -14,13 +16,13 @@ pub struct HashedStore<'a, R> {
 
 impl<'a, R: Record> HashedStore<'a, R> {
     // A store over lent slots; it is to be emptied before it has a meaning.
-    pub fn new(slots: &'a mut [Option<R>]) -> HashedStore<'a, R>
-        ensures limit { (⟦<HashedStore<'a, R> as Store<R>>⟧.model result).limit ≡ length slots.old }
-        ensures slots { result.slots.now ≡ slots.old }
+    pub fn new(used: &'a mut [bool], rows: &'a mut [R]) -> HashedStore<'a, R>
+        ensures limit { (⟦<HashedStore<'a, R> as Store<R>>⟧.model result).limit ≡ length (slots_of used.old rows.old) }
+        ensures slots { result.slots ≡ slots_of used.old rows.old }
         ensures none { (result.count ≡ 0) × (result.reach ≡ 0) }
     {
         HashedStore {
-            slots,
+            slots: Slots::new(used, rows),
             count: 0,
             reach: 0,
         }

@@ -7,5 +7,6 @@ mod least;
 pub mod meaning;
 mod place;
 mod round;
+mod slots;
 mod sweep;
 mod way;

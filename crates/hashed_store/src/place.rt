@@ -2,7 +2,7 @@
 //
 // These take the slots and the reach, and not the store: a call of the store only hands them on, so that its proof needs no file and a wrong operand
 // is refused where it stands (docs/PROVING.md). A struct of the two would be the store once more.
-ghost use Rattle.std.specs.Prelude.{◌≡◌, ◌<◌, ◌≤◌, length, MatchResult};
+ghost use Rattle.std.specs.Prelude.{◌≡◌, ◌^◌, ◌<◌, ◌≤◌, length, MatchResult};
 ghost use Rattle.store.specs.Lists.{lookup};
 ghost use Rattle.hashed_store.specs.Holes.{Kept};
 ghost use Rattle.hashed_store.specs.Slots.{slot_at};
@@ -10,6 +10,7 @@ ghost use Rattle.hashed_store.specs.Ways.{Sought};
 ghost use Rattle.hashed_store.specs.Places.{rows_of, PutSays, Exchanged, Taken, Removed, span_of};
 
 use crate::close::close;
+use crate::slots::Slots;
 use crate::way::{Ending, way};
 use store::record::Record;
 use store::refusal::{InsertRefusal, ReplaceRefusal};
@@ -22,7 +23,7 @@ pub(crate) fn span(reach: usize, slots: usize) -> usize
 }
 
 // The place of the record with a key, if it is held.
-fn seek<R: Record>(slots: &[Option<R>], key: u64, reach: usize) -> Option<usize>
+fn seek<R: Record>(slots: &Slots<'_, R>, key: u64, reach: usize) -> Option<usize>
     ensures { Sought R.Record.key slots.now reach key result }
 {
     match way(slots, key, span(reach, slots.len())) {
@@ -31,24 +32,25 @@ fn seek<R: Record>(slots: &[Option<R>], key: u64, reach: usize) -> Option<usize>
     }
 }
 
-pub(crate) fn find_in<R: Record>(slots: &[Option<R>], key: u64, reach: usize) -> Option<R>
+pub(crate) fn find_in<R: Record>(slots: &Slots<'_, R>, key: u64, reach: usize) -> Option<R>
     ensures { Kept R.Record.key slots.now reach → result ≡ lookup R.Record.key key (rows_of R.Record.key slots.now) }
 {
-    slots[seek(slots, key, reach)?]
+    slots.get(seek(slots, key, reach)?)
 }
 
 // Puts a record into the first empty slot of its way, and answers the reach that it makes.
 pub(crate) fn put<R: Record>(
-    slots: &mut [Option<R>],
+    slots: &mut Slots<'_, R>,
     item: R,
     reach: usize,
 ) -> Result<usize, InsertRefusal>
-    ensures { PutSays R.Record.key item reach slots.old slots.new result }
+    ensures says { PutSays R.Record.key item reach slots.old slots.new result }
+    ensures narrow { length slots.old < 2 ^ 64 }
 {
     match way(slots, item.key(), slots.len()) {
         Ending::Here(_) => Err(InsertRefusal::Taken),
         Ending::Gap(place, strayed) => {
-            slots[place] = Some(item);
+            slots.set(place, Some(item));
             Ok(reach.max(strayed))
         }
         Ending::Past => Err(InsertRefusal::Full),
@@ -56,30 +58,31 @@ pub(crate) fn put<R: Record>(
 }
 
 pub(crate) fn exchange<R: Record>(
-    slots: &mut [Option<R>],
+    slots: &mut Slots<'_, R>,
     item: R,
     reach: usize,
 ) -> Result<(), ReplaceRefusal>
     ensures { Kept R.Record.key slots.old reach → Exchanged R.Record.key item reach slots.old slots.new result }
 {
     let place = seek(slots, item.key(), reach).ok_or(ReplaceRefusal::Missing)?;
-    slots[place] = Some(item);
+    slots.set(place, Some(item));
     Ok(())
 }
 
 // Takes the record at a place out, and closes the hole.
-pub(crate) fn take_at<R: Record>(slots: &mut [Option<R>], place: usize, reach: usize) -> Option<R>
+pub(crate) fn take_at<R: Record>(slots: &mut Slots<'_, R>, place: usize, reach: usize) -> Option<R>
     requires { place < length slots.old }
     ensures is { result ≡ slot_at slots.old place }
     ensures leaves { Taken R.Record.key place reach slots.old slots.new }
+    ensures size { length slots.new ≡ length slots.old }
 {
-    let taken = slots[place].take();
+    let taken = slots.take(place);
     close(slots, place, reach);
     taken
 }
 
 // Takes the record with a key out, and answers it.
-pub(crate) fn remove_from<R: Record>(slots: &mut [Option<R>], key: u64, reach: usize) -> Option<R>
+pub(crate) fn remove_from<R: Record>(slots: &mut Slots<'_, R>, key: u64, reach: usize) -> Option<R>
     ensures { Removed R.Record.key key reach slots.old slots.new result }
 {
     let place = seek(slots, key, reach)?;

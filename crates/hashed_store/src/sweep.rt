@@ -4,6 +4,7 @@ ghost use Rattle.tally.specs.Joining.{joined_all};
 ghost use Rattle.hashed_store.specs.Sweeps.{PickedIn, SweptOut};
 
 use crate::place::take_at;
+use crate::slots::Slots;
 use store::pick::Pick;
 use store::record::Record;
 use tally::measure::Measure;
@@ -25,7 +26,7 @@ pub(crate) struct Swept<T> {
 
 // The first picked record among the slots from one place to another.
 fn first_picked<R: Record, P: Pick<R>>(
-    slots: &[Option<R>],
+    slots: &Slots<'_, R>,
     pick: &P,
     from: usize,
     to: usize,
@@ -33,13 +34,10 @@ fn first_picked<R: Record, P: Pick<R>>(
     requires { (from ≤ to) × (to ≤ length slots.now) }
     ensures { PickedIn (P.Pick.picked pick.now) slots.now from to result }
 {
-    for (i, slot) in slots[from..to].iter().enumerate() {
-        if let Some(item) = *slot {
+    for place in from..to {
+        if let Some(item) = slots.get(place) {
             if pick.picks(item) {
-                return Some(Found {
-                    place: from + i,
-                    item,
-                });
+                return Some(Found { place, item });
             }
         }
     }
@@ -48,20 +46,23 @@ fn first_picked<R: Record, P: Pick<R>>(
 
 // The next picked record from a place on, around the end.
 fn next_picked<R: Record, P: Pick<R>>(
-    slots: &[Option<R>],
+    slots: &Slots<'_, R>,
     pick: &P,
     from: usize,
 ) -> Option<Found<R>>
     requires { from ≤ length slots.now }
     ensures { PickedIn (P.Pick.picked pick.now) slots.now 0 (length slots.now) result }
 {
-    first_picked(slots, pick, from, slots.len()).or_else(|| first_picked(slots, pick, 0, from))
+    match first_picked(slots, pick, from, slots.len()) {
+        None => first_picked(slots, pick, 0, from),
+        found => found,
+    }
 }
 
 // A removal may move a later record into the slot just emptied, so that slot is looked at again; it may also move one around the end, so this goes
 // on until a whole round picks none.
 pub(crate) fn sweep_slots<R: Record, P: Pick<R>, M: Measure<R>>(
-    slots: &mut [Option<R>],
+    slots: &mut Slots<'_, R>,
     count: usize,
     reach: usize,
     pick: &P,

@@ -3,6 +3,7 @@ ghost use Rattle.std.specs.Prelude.{◌≤◌, length};
 ghost use Rattle.hashed_store.specs.Ways.{Went};
 
 use crate::round::{home, next};
+use crate::slots::Slots;
 use store::record::Record;
 
 #[derive(Clone, Copy)]
@@ -16,7 +17,7 @@ pub(crate) enum Ending {
 }
 
 // Looks for a key in the first `most` slots of its way.
-pub(crate) fn way<R: Record>(slots: &[Option<R>], key: u64, most: usize) -> Ending
+pub(crate) fn way<R: Record>(slots: &Slots<'_, R>, key: u64, most: usize) -> Ending
     requires { most ≤ length slots.now }
     ensures { Went R.Record.key slots.now key most result }
 {
@@ -27,7 +28,7 @@ pub(crate) fn way<R: Record>(slots: &[Option<R>], key: u64, most: usize) -> Endi
     let mut place = home(key, count);
     // The steps taken are part of the answer. The place goes on beside them, since from the home and the steps it would cost a test for the end each time.
     for taken in 0..most {
-        match &slots[place] {
+        match slots.get(place) {
             None => return Ending::Gap(place, taken),
             Some(held) if held.key() == key => return Ending::Here(place),
             Some(_) => place = next(place, count),

@@ -4,6 +4,9 @@ use capture::count::LineCount;
 use front_row::front_row::FrontRow;
 use hashed_store::hashed::HashedStore;
 use ledger::ledger::Ledger;
+use records::execution::Execution;
+use records::order::Order;
+use records::symbol_row::SymbolRow;
 use std::alloc::Global;
 use std::process::Abort;
 use std::test::Fail;
@@ -70,13 +73,13 @@ fn nothing_is_answered_without_a_ledger(rt: HostRuntime) -> Result<(), Fail> {
 // The sample day over hashed stores, the orders' with a front row before it: what the row stores of the other tests answer.
 #[test]
 fn other_stores_answer_alike(rt: HostRuntime) -> Result<(), Fail> {
-    let mut orders = [None; 3];
-    let mut executions = [None; 5];
-    let mut symbols = [None; 2];
+    let (mut orders_used, mut orders) = ([false; 3], [Order::BLANK; 3]);
+    let (mut executions_used, mut executions) = ([false; 5], [Execution::BLANK; 5]);
+    let (mut symbols_used, mut symbols) = ([false; 2], [SymbolRow::BLANK; 2]);
     let mut ledger = Ledger::open(
-        FrontRow::new(HashedStore::new(&mut orders)),
-        HashedStore::new(&mut executions),
-        HashedStore::new(&mut symbols),
+        FrontRow::new(HashedStore::new(&mut orders_used, &mut orders)),
+        HashedStore::new(&mut executions_used, &mut executions),
+        HashedStore::new(&mut symbols_used, &mut symbols),
         9,
     );
     let mut input: &[u8] =

@@ -28,11 +28,12 @@ pub fn open<R: BufRead, W: Write>(
             open_over(session, opening.front, RowStore::new(rows.as_mut_slice()))
         }
         Kind::Hashed => {
-            let mut slots = vec![in session.heap; Some(Order::BLANK); opening.limit as usize]?;
+            let mut used = vec![in session.heap; true; opening.limit as usize]?;
+            let mut rows = vec![in session.heap; Order::BLANK; opening.limit as usize]?;
             open_over(
                 session,
                 opening.front,
-                HashedStore::new(slots.as_mut_slice()),
+                HashedStore::new(used.as_mut_slice(), rows.as_mut_slice()),
             )
         }
     }

@@ -7,7 +7,7 @@ use Rattle.hashed_store.proofs.close.close.Given as goal
 
 abbrev pub invariant-loop-place : goal.invariant-loop-place
 invariant-loop-place g l =
-    (l.hole < length l.slots)
+    (length l.slots ≡ length l.initial.slots) × (l.hole < length l.slots)
     × (Holed g.R.Record.key l.initial.slots l.reach l.initial.hole
     → Holed g.R.Record.key l.slots l.reach l.hole × (sorted g.R.Record.key (held l.slots) ≡ sorted g.R.Record.key (held l.initial.slots))
     × (length (held l.slots) ≡ length (held l.initial.slots)))

@@ -1,7 +1,6 @@
 use borrow.Author.Count.{below_more}
-use Rattle.std.proofs.Common.{◌<◌, length, None, sym, ◌∙◌, subst, arith}
+use Rattle.std.proofs.Common.{◌<◌, sym, ◌∙◌, subst, arith}
 use Rattle.std.proofs.lemmas.Bool.Decides.{nat_tests}
-use Rattle.std.proofs.lemmas.List.{get_or_read}
 use Rattle.hashed_store.specs.Rounds.{around}
 use Rattle.hashed_store.specs.Slots.{slot_at, NotOver}
 use Rattle.hashed_store.proofs.close.next_over.Goals as goal
@@ -10,9 +9,9 @@ pub loop-distance-preserved : goal.loop-distance-preserved
 loop-distance-preserved g c =
     let key = g.R.Record.key in
     let ss = c.args.slots.now in
-    let n = length ss in
+    let n = c.len-count.result in
     let was = c.loop-distance.invariant in
-    let slot = sym (get_or_read ss c.loop-distance.place c.index-slots-place.result was.1 c.index-slots-place.is None) ∙ c.in_ok-held.was in
+    let slot = sym c.get.ensures ∙ c.in_ok-held.was in
     let here : NotOver key n c.loop-distance.distance c.loop-distance.place (slot_at ss c.loop-distance.place) = rw slot (grind arith) in (
       grind (arith, nat_tests),
       grind (arith, nat_tests),

@@ -1,10 +1,10 @@
-use Rattle.std.proofs.Common.{length, ap, ◌∙◌, rules}
-use Rattle.hashed_store.specs.Slots.{held}
+use Rattle.std.proofs.Common.{length, None, replicate}
+use Rattle.std.proofs.lemmas.List.{length-replicate}
 use Rattle.hashed_store.proofs.Going.{held-blank}
 use Rattle.hashed_store.proofs.Placing.{cleared-all}
 use Rattle.hashed_store.proofs.least.clear.Goals as goal
 
 pub returns : goal.returns
 returns g c =
-    let blank = c.fill.ensures.after (λ y e. search rules) in
-    cleared-all g.R.Record.key c.args.slots.now c.fill.new.self c.fill.ensures.len (ap held blank ∙ held-blank (length c.args.slots.now))
+    let n = length c.args.slots.now in
+    rw c.clear.ensures (cleared-all g.R.Record.key c.args.slots.now (replicate n None) (length-replicate n None) (held-blank n))

@@ -11,5 +11,6 @@ returns-in_err-place g c kept =
 
 pub returns : goal.returns
 returns g c kept =
-    exchanged-there g.R.Record.key c.args.slots.now c.args.reach c.args.item c.in_ok-place.place kept
-    (rw (c.in_ok-place.ensures.ok_part, c.key.ensures) at c.seek.ensures)
+    rw c.set.ensures
+    (exchanged-there g.R.Record.key c.args.slots.now c.args.reach c.args.item c.in_ok-place.place kept
+    (rw (c.in_ok-place.ensures.ok_part, c.key.ensures) at c.seek.ensures))

@@ -1,5 +1,4 @@
-use Rattle.std.proofs.Common.{None, sym, ◌∙◌}
-use Rattle.std.proofs.lemmas.List.{get_or_read}
+use Rattle.std.proofs.Common.{sym, ◌∙◌}
 use Rattle.hashed_store.proofs.Placing.{found_at, looked-absent}
 use Rattle.hashed_store.proofs.place.find_in.Goals as goal
 
@@ -9,4 +8,4 @@ returns-in_err-seek g c kept = c.from_residual.ensures ∙ looked-absent g.R.Rec
 pub returns : goal.returns
 returns g c kept =
     let found = found_at g.R.Record.key c.args.slots.now c.args.key c.in_ok-seek.field-0 kept.apart c.in_ok-seek.ensures in
-    get_or_read c.args.slots.now c.in_ok-seek.field-0 c.index-slots-branch.result c.in_ok-seek.ensures.inside c.index-slots-branch.is None ∙ sym found.looked
+    c.get.ensures ∙ sym found.looked

@@ -8,5 +8,5 @@ returns-in-Gap g c kept =
     let ss = c.args.slots.now in
     ⊎_elim
     (λ z. missed-gap key ss c.args.reach c.args.key z.0 z.1 kept (rw z.2 at c.way.ensures))
-    (λ z. missed-past key ss c.args.reach c.args.key c.span.result kept (rw c.span.ensures (spans c.args.reach _)) (rw z at c.way.ensures))
+    (λ z. missed-past key ss c.args.reach c.args.key c.span.result kept (rw (c.span.ensures, c.len.ensures) (spans c.args.reach _)) (rw z at c.way.ensures))
     c.in-Gap.is
