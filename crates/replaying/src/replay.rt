@@ -73,12 +73,17 @@ fn over_slots<R: BufRead, W: Write>(
     ensures { OnOk result (IfSome (R.remaining input.old) (λ bytes. Appends (W.contents output.old) (W.contents output.new) (room_printed (length places.old) options.now bytes))) }
 {
     let room = &options.room;
-    let mut orders = vec![in heap; None; room.orders as usize]?;
-    let mut executions = vec![in heap; None; room.executions as usize]?;
-    let mut symbols = vec![in heap; None; spread(room.symbols) as usize]?;
-    let orders = HashedStore::new(orders.as_mut_slice());
-    let executions = HashedStore::new(executions.as_mut_slice());
-    let symbols = Capped::new(HashedStore::new(symbols.as_mut_slice()), room.symbols);
+    let slots = spread(room.symbols);
+    let mut orders = vec![in heap; Order::BLANK; room.orders as usize]?;
+    let mut executions = vec![in heap; Execution::BLANK; room.executions as usize]?;
+    let mut symbols = vec![in heap; SymbolRow::BLANK; slots as usize]?;
+    let mut of_orders = vec![in heap; false; room.orders as usize]?;
+    let mut of_executions = vec![in heap; false; room.executions as usize]?;
+    let mut of_symbols = vec![in heap; false; slots as usize]?;
+    let orders = HashedStore::new(of_orders.as_mut_slice(), orders.as_mut_slice());
+    let executions = HashedStore::new(of_executions.as_mut_slice(), executions.as_mut_slice());
+    let symbols = HashedStore::new(of_symbols.as_mut_slice(), symbols.as_mut_slice());
+    let symbols = Capped::new(symbols, room.symbols);
     over(
         options,
         (orders, executions, symbols),
