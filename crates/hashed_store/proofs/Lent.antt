@@ -4,16 +4,16 @@ use Rattle.hashed_store.specs.Lent.{slots_of}
 use Rattle.hashed_store.specs.Slots.{slot_at}
 
 module _ {X : Type 0} where
-  pub length-slots : (us : List Bool) (rs : List X) → length (slots_of us rs) ≡ min (length us) (length rs)
-  length-slots [] rs = omega arith
-  length-slots (u ∷ us) [] = omega arith
-  length-slots (u ∷ us) (r ∷ rs) = omega (arith, length-slots us rs)
+  pub length_slots : (us : List Bool) (rs : List X) → length (slots_of us rs) ≡ min (length us) (length rs)
+  length_slots [] rs = omega arith
+  length_slots (u ∷ us) [] = omega arith
+  length_slots (u ∷ us) (r ∷ rs) = omega (arith, length_slots us rs)
 
   pub below_used : (us : List Bool) (rs : List X) (i : ℕ) → i < length (slots_of us rs) → i < length us
-  below_used us rs i h = omega (arith, length-slots us rs)
+  below_used us rs i h = omega (arith, length_slots us rs)
 
   pub below_rows : (us : List Bool) (rs : List X) (i : ℕ) → i < length (slots_of us rs) → i < length rs
-  below_rows us rs i h = omega (arith, length-slots us rs)
+  below_rows us rs i h = omega (arith, length_slots us rs)
 
   pub used_slot : (us : List Bool) (rs : List X) (i : ℕ) (r : X) → i < length (slots_of us rs) → get_or us i false ≡ true → Some (get_or rs i r) ≡ slot_at (slots_of us rs) i
   used_slot [] rs i r h e = absurd (omega arith)

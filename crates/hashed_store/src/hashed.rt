@@ -1,5 +1,5 @@
 // The store: lent slots, and what is kept beside them.
-ghost use Rattle.std.specs.Prelude.{◌≡◌, length};
+ghost use Rattle.std.specs.Prelude.{◌≡◌, length, min};
 ghost use Rattle.hashed_store.specs.Lent.{slots_of};
 
 use crate::slots::Slots;
@@ -15,9 +15,10 @@ pub struct HashedStore<'a, R> {
 }
 
 impl<'a, R: Record> HashedStore<'a, R> {
-    // A store over lent slots; it is to be emptied before it has a meaning.
+    // A store over lent memory, as many slots as there are both bytes and rows; it is to be emptied before it has a meaning.
+    #[tactic(auto, using(crate::proofs::Lent::length_slots))]
     pub fn new(used: &'a mut [bool], rows: &'a mut [R]) -> HashedStore<'a, R>
-        ensures limit { (⟦<HashedStore<'a, R> as Store<R>>⟧.model result).limit ≡ length (slots_of used.old rows.old) }
+        ensures limit { (⟦<HashedStore<'a, R> as Store<R>>⟧.model result).limit ≡ min (length used.old) (length rows.old) }
         ensures slots { result.slots ≡ slots_of used.old rows.old }
         ensures none { (result.count ≡ 0) × (result.reach ≡ 0) }
     {
