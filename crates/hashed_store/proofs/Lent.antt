@@ -43,7 +43,7 @@ module _ {X : Type 0} where
   emptied_slots (u ∷ us) (x ∷ rs) zero = refl
   emptied_slots (u ∷ us) (x ∷ rs) (suc i) = ap (λ ss. slot_at (slots_of (u ∷ []) (x ∷ [])) 0 ∷ ss) (emptied_slots us rs i)
 
-  pub blank-slots : (us : List Bool) (rs : List X) → slots_of (replicate (length us) false) rs ≡ replicate (length (slots_of us rs)) None
-  blank-slots [] rs = refl
-  blank-slots (u ∷ us) [] = refl
-  blank-slots (u ∷ us) (x ∷ rs) = ap (λ ss. None ∷ ss) (blank-slots us rs)
+  pub blank_slots : (us : List Bool) (rs : List X) → slots_of (replicate (length us) false) rs ≡ replicate (length (slots_of us rs)) None
+  blank_slots [] rs = refl
+  blank_slots (u ∷ us) [] = refl
+  blank_slots (u ∷ us) (x ∷ rs) = ap (λ ss. None ∷ ss) (blank_slots us rs)

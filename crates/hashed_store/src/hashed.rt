@@ -15,7 +15,7 @@ pub struct HashedStore<'a, R> {
 }
 
 impl<'a, R: Record> HashedStore<'a, R> {
-    // A store over lent slots; it is to be emptied before it has a meaning.
+    // A store over lent memory, as many slots as there are both bytes and rows; it is to be emptied before it has a meaning.
     #[tactic(auto, using(crate::proofs::Lent::length_slots))]
     pub fn new(used: &'a mut [bool], rows: &'a mut [R]) -> HashedStore<'a, R>
         ensures limit { (⟦<HashedStore<'a, R> as Store<R>>⟧.model result).limit ≡ min (length used.old) (length rows.old) }

@@ -29,6 +29,7 @@ impl<'a, R: Copy> Slots<'a, R> {
         Slots { used, rows }
     }
 
+    #[tactic(auto, using(crate::proofs::Lent::length_slots))]
     pub(crate) fn len(&self) -> usize
         ensures { result ≡ length self.now }
     {
@@ -61,6 +62,7 @@ impl<'a, R: Copy> Slots<'a, R> {
     }
 
     // The rows stay as they are.
+    #[tactic(auto, using(crate::proofs::Lent::blank_slots))]
     pub(crate) fn clear(&mut self)
         ensures { self.new ≡ replicate (length self.old) None }
     {
