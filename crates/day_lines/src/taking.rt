@@ -1,5 +1,5 @@
 // Putting lines to a ledger.
-ghost use Rattle.std.specs.Prelude.{◌≡◌, Bool, ◌++◌, IfSome, IfOk, OnOk};
+ghost use Rattle.std.specs.Prelude.{◌≡◌, true, IfSome, IfOk, OnOk};
 ghost use Rattle.std.specs.Io.KnownBytes.{Appends};
 ghost use Rattle.capture.specs.Lines.{lines_of};
 ghost use Rattle.capture.specs.Held.{held};
@@ -63,6 +63,7 @@ fn take<W: Write, O: Store<Order>, E: Store<Execution>, S: Store<SymbolRow>>(
     show(shown, number, &answer, output)
 }
 
+// Most days are not shown, so that the test stands apart from the printing.
 fn show<W: Write>(
     shown: bool,
     number: u64,
@@ -71,9 +72,20 @@ fn show<W: Write>(
 ) -> io::Result<()>
     ensures { OnOk result (Appends (W.contents output.old) (W.contents output.new) (answer_line shown number answer.now)) }
 {
-    if !shown {
-        return Ok(());
+    if shown {
+        print(number, answer, output)
+    } else {
+        Ok(())
     }
+}
+
+fn print<W: Write>(
+    number: u64,
+    answer: &Result<Outcome, LedgerFault>,
+    output: &mut W,
+) -> io::Result<()>
+    ensures { OnOk result (Appends (W.contents output.old) (W.contents output.new) (answer_line true number answer.now)) }
+{
     let form = &Answered(answer);
     writeln!(output, "{}", Numbered { number, form })
 }
