@@ -169,7 +169,7 @@ used-at a b c limit xs n used e kept fits within drops =
 -- Of all lines.
 
 -- the first line, and those of what stands behind it
-whole-first : (x : ℕ) (xs : List ℕ) → whole_lines (x ∷ xs) ≡ before_end (x ∷ xs) ∷ whole_lines (drop_through 10 (x ∷ xs))
+pub whole-first : (x : ℕ) (xs : List ℕ) → whole_lines (x ∷ xs) ≡ before_end (x ∷ xs) ∷ whole_lines (drop_through 10 (x ∷ xs))
 whole-first x [] = ⊎_elim (λ e. let off = eq-eqb x 10 e in rw off refl) (λ e. let off = ne_eqb x 10 e in rw off refl) (cases_eq x 10)
 whole-first x (y ∷ ys) =
     ⊎_elim

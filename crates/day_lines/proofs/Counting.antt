@@ -8,12 +8,7 @@ use Rattle.day_rules.proofs.Numbers.{number_small}
 use Rattle.day_rules.specs.Faults.{refusal_number}
 use Rattle.day_rules.specs.Lines.{times_refused}
 use Rattle.day_lines.specs.declared.seen.Seen.{Seen}
-use Rattle.day_lines.specs.Seen.{at_most, count_at, counted, answer_counted, none_seen, one_seen, times_from, IsSeen}
-
--- after all answers
-abbrev pub all_seen : List (Result Outcome LedgerFault) → Seen → Seen
-all_seen [] s = s
-all_seen (a ∷ answers) s = all_seen answers (one_seen a s)
+use Rattle.day_lines.specs.Seen.{at_most, count_at, counted, answer_counted, none_seen, one_seen, all_seen, times_from, IsSeen}
 
 -- each refusal has a count, and no count passes the most that it holds
 record Counts (counts : List ℕ) : Type 0 where

@@ -1,3 +1,5 @@
 pub mod Counting
+mod Cutting
 mod Printing
+mod Putting
 pub mod Places

@@ -30,6 +30,11 @@ answer_counted (Err fault) counts = counted (refusal_number fault) counts
 abbrev pub one_seen : Result Outcome LedgerFault → Seen → Seen
 one_seen a s = record { lines = record { lines = more s.lines.lines }; refusals = record { counts = answer_counted a s.refusals.counts } }
 
+-- after all answers
+abbrev pub all_seen : List (Result Outcome LedgerFault) → Seen → Seen
+all_seen [] s = s
+all_seen (a ∷ answers) s = all_seen answers (one_seen a s)
+
 -- how often each of so many refusals came, by their numbers from n on
 abbrev pub times_from : (count n : ℕ) → List (Result Outcome LedgerFault) → List ℕ
 times_from zero n answers = []

@@ -1,16 +1,18 @@
 // Putting lines to a ledger.
-ghost use Rattle.std.specs.Prelude.{◌≡◌, true, IfSome, IfOk, OnOk};
+ghost use Rattle.std.specs.Prelude.{◌≡◌, ◌<◌, true, length, Some, None, MatchOption, IfSome, IfOk, OnOk};
 ghost use Rattle.std.specs.Io.KnownBytes.{Appends};
 ghost use Rattle.capture.specs.Lines.{lines_of};
 ghost use Rattle.capture.specs.Held.{held};
+ghost use Rattle.capture.specs.Splits.{before_end, after_end};
 ghost use Rattle.day_rules.specs.Lines.{day_after, answers_to};
 ghost use Rattle.day_rules.specs.Rules.{answer, next};
 ghost use Rattle.day_lines.specs.Seen.{IsSeen, one_seen};
+ghost use Rattle.day_lines.specs.Takings.{Taken, PieceTaken, begun_line};
 ghost use Rattle.day_lines.specs.Texts.{answer_line, answers_text};
 
 use crate::seen::Seen;
 use capture::buffer::LineBuffer;
-use capture::input::next_line;
+use capture::split::split_line;
 use day_forms::answer::Answered;
 use day_forms::numbered::Numbered;
 use day_rules::fault::LedgerFault;
@@ -35,18 +37,68 @@ pub fn take_lines<R: BufRead, W: Write, O: Store<Order>, E: Store<Execution>, S:
     ensures seen { IfOk result (λ seen. IfSome (R.remaining input.old) (λ bytes. IsSeen seen (answers_to (lines_of bytes) ledger.old))) }
 {
     let mut seen = Seen::new();
-    let mut line = LineBuffer::new();
+    let mut begun = LineBuffer::new();
     // Nothing says that the input ends, and no handle to wait without end is used here: so the turns are counted.
     for _ in 0..u64::MAX {
-        if !next_line(input, &mut line)? {
+        let piece = input.fill_buf()?;
+        let count = piece.len();
+        if count == 0 {
+            take_last(ledger, shown, &begun, &mut seen, output)?;
             return Ok(seen);
         }
-        take(ledger, shown, &line, &mut seen, output)?;
+        take_piece(ledger, shown, piece, &mut begun, &mut seen, output)?;
+        input.consume(count);
     }
     Err(ErrorKind::TimedOut.into())
 }
 
-// Puts what of the line was passed on to the ledger.
+// The lines that end in a piece of the input, of which the first was begun before; what stands behind the last line end begins the next one.
+fn take_piece<W: Write, O: Store<Order>, E: Store<Execution>, S: Store<SymbolRow>>(
+    ledger: &mut Ledger<O, E, S>,
+    shown: bool,
+    piece: &[u8],
+    begun: &mut LineBuffer,
+    seen: &mut Seen,
+    output: &mut W,
+) -> io::Result<()>
+    ensures { OnOk result (PieceTaken shown (held begun.old) piece.now (held begun.new) (W.contents output.old) (W.contents output.new) seen.old seen.new ledger.old ledger.new) }
+{
+    let mut rest = piece;
+    while let Some((end, next)) = cut_line(rest) {
+        begun.extend(end);
+        take(ledger, shown, begun, seen, output)?;
+        begun.clear();
+        rest = next;
+    }
+    begun.extend(rest);
+    Ok(())
+}
+
+// The bytes before the first line end and those behind it, if there is one.
+fn cut_line(bytes: &[u8]) -> Option<(&[u8], &[u8])>
+    ensures { MatchOption result (after_end bytes.now ≡ None) (λ p. (p.0.now ≡ before_end bytes.now) × (after_end bytes.now ≡ Some p.1.now) × (length p.1.now < length bytes.now)) }
+{
+    let (end, next) = split_line(bytes);
+    Some((end, next?))
+}
+
+// The last line, where it has no line end, unless it is empty.
+fn take_last<W: Write, O: Store<Order>, E: Store<Execution>, S: Store<SymbolRow>>(
+    ledger: &mut Ledger<O, E, S>,
+    shown: bool,
+    begun: &LineBuffer,
+    seen: &mut Seen,
+    output: &mut W,
+) -> io::Result<()>
+    ensures { OnOk result (Taken shown (begun_line (held begun.now)) (W.contents output.old) (W.contents output.new) seen.old seen.new ledger.old ledger.new) }
+{
+    if begun.is_empty() {
+        return Ok(());
+    }
+    take(ledger, shown, begun, seen, output)
+}
+
+// Puts what of a line was passed on to the ledger.
 fn take<W: Write, O: Store<Order>, E: Store<Execution>, S: Store<SymbolRow>>(
     ledger: &mut Ledger<O, E, S>,
     shown: bool,
@@ -60,20 +112,8 @@ fn take<W: Write, O: Store<Order>, E: Store<Execution>, S: Store<SymbolRow>>(
 {
     let answer = ledger.put(line.line());
     let number = seen.count(&answer);
-    show(shown, number, &answer, output)
-}
-
-// Most days are not shown, so that the test stands apart from the printing.
-fn show<W: Write>(
-    shown: bool,
-    number: u64,
-    answer: &Result<Outcome, LedgerFault>,
-    output: &mut W,
-) -> io::Result<()>
-    ensures { OnOk result (Appends (W.contents output.old) (W.contents output.new) (answer_line shown number answer.now)) }
-{
     if shown {
-        print(number, answer, output)
+        print(number, &answer, output)
     } else {
         Ok(())
     }
