@@ -3,6 +3,8 @@
 
 mod commands;
 mod running;
+#[cfg(test)]
+mod tests;
 
 use running::run;
 use std::io;
