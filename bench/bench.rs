@@ -3,6 +3,8 @@
 //! Both read every field of every line and fold it into one checksum; the checksums are compared on the valid lines and on
 //! damaged ones before anything is timed.
 
+mod digits;
+
 use std::hint::black_box;
 use std::time::{Duration, Instant};
 
@@ -20,6 +22,8 @@ mod proved {
 
 mod plain {
     //! The same reader in plain Rust.
+
+    use super::digits::{DIGITS, NO_DIGIT};
 
     #[derive(Clone, Copy, Debug, PartialEq, Eq)]
     pub enum Fault {
@@ -115,19 +119,6 @@ mod plain {
         TradeLong(Trade),
         Break(Break),
     }
-
-    const NO_DIGIT: u8 = 36;
-
-    /// What each byte is worth as a digit in base 36.
-    static DIGITS: [u8; 256] = {
-        let mut digits = [NO_DIGIT; 256];
-        let mut i = 0;
-        while i < 36 {
-            digits[b"0123456789ABCDEFGHIJKLMNOPQRSTUVWXYZ"[i] as usize] = i as u8;
-            i += 1;
-        }
-        digits
-    };
 
     /// A line of its kind's length, whose fields are read by their offsets.
     struct Line<'a> {

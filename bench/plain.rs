@@ -4,6 +4,8 @@
 //!
 //! With rooms reserved, the maps have them from the start, and need not grow.
 
+mod digits;
+
 use std::collections::HashMap;
 use std::collections::hash_map::{Entry, OccupiedEntry};
 use std::env;
@@ -125,6 +127,7 @@ mod lines {
 mod reader {
     //! Reading a line as a message.
 
+    use super::digits::{DIGITS, NO_DIGIT};
     use super::*;
 
     #[derive(Clone, Copy, PartialEq)]
@@ -157,20 +160,6 @@ mod reader {
         Trade(Trade),
         Break { execution: u64 },
     }
-
-    /// Has a bit that no digit has.
-    const NO_DIGIT: u8 = 0x40;
-
-    /// What each byte is worth as a digit in base 36.
-    static DIGITS: [u8; 256] = {
-        let mut digits = [NO_DIGIT; 256];
-        let mut i = 0;
-        while i < 36 {
-            digits[b"0123456789ABCDEFGHIJKLMNOPQRSTUVWXYZ"[i] as usize] = i as u8;
-            i += 1;
-        }
-        digits
-    };
 
     /// A line of its kind's length `L`, whose fields are read by their offsets.
     struct Line<'a, const L: usize> {
