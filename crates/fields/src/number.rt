@@ -1,35 +1,35 @@
 // Fields of digits: read, checked and written.
-ghost use Rattle.std.specs.Prelude.{◌≡◌, ◌<◌, false, MatchOption, nat_lt};
-ghost use Rattle.layout.specs.Bytes.{worth_of};
 ghost use Rattle.fields.specs.Slots.{number_slot};
 
 use crate::field::Field;
 use crate::numeral::Number;
 use crate::place::front;
 use crate::put::put_digits;
-use crate::table::look;
+use crate::table::worth;
 
-impl Field for Number {
+impl<const BASE: u64, const COUNT: u8> Field for Number<BASE, COUNT> {
     type Value = u64;
 
-    ghost slot = { number_slot };
+    ghost slot = { number_slot BASE COUNT };
 
     ghost number = { λ _ v. v };
 
     fn width(self) -> u8 {
-        self.count
+        COUNT
     }
 
+    #[inline(always)]
     fn scan(self, line: &[u8]) -> Result<u64, u8> {
-        let held = front(line, self.count);
+        let held = front(line, COUNT);
         let mut value = 0;
         for (place, byte) in held.iter().enumerate() {
-            let Some(digit) = self.digit(*byte) else {
+            let digit = worth(*byte) as u64;
+            if digit >= BASE {
                 return Err(place as u8);
-            };
-            value = value * self.base + digit;
+            }
+            value = value * BASE + digit;
         }
-        if held.len() < self.count as usize {
+        if held.len() < COUNT as usize {
             return Err(held.len() as u8);
         }
         Ok(value)
@@ -44,16 +44,6 @@ impl Field for Number {
     }
 
     fn put(self, room: &mut [u8], offset: u8, value: u64) {
-        put_digits(room, offset, self.base, self.count, value);
-    }
-}
-
-impl Number {
-    // The worth of the byte, if it is a digit of the base.
-    fn digit(self, byte: u8) -> Option<u64>
-        ensures { MatchOption result (nat_lt (worth_of byte) self.base ≡ false) (λ d. (d < self.base) × (d ≡ worth_of byte)) }
-    {
-        let worth = look(byte).worth as u64;
-        if worth < self.base { Some(worth) } else { None }
+        put_digits(room, offset, BASE, COUNT, value);
     }
 }

@@ -8,7 +8,6 @@ use crate::field::Field;
 use crate::padded::Text;
 use crate::place::front;
 use crate::put::put_digits;
-use crate::table::look;
 use layout::class::Class;
 
 impl Field for Text {
@@ -23,6 +22,7 @@ impl Field for Text {
     }
 
     // As for numbers, but for the rule of a byte and for what is carried from one to the next: one scan for both would take both as closures.
+    #[inline(always)]
     fn scan(self, line: &[u8]) -> Result<u64, u8> {
         let held = front(line, self.width);
         let mut value = 0;
@@ -75,8 +75,8 @@ fn in_class(class: Class, byte: u8) -> bool
     ensures { result ≡ is_of class byte }
 {
     match class {
-        Class::Graphic => look(byte).graphic,
-        Class::Letter => look(byte).letter,
+        Class::Graphic => byte.is_ascii_graphic(),
+        Class::Letter => byte.is_ascii_uppercase(),
     }
 }
 

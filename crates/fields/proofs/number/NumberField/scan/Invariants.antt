@@ -6,7 +6,7 @@ use Rattle.fields.specs.Slots.{number_slot}
 use Rattle.fields.proofs.number.NumberField.scan.Given as goal
 
 abbrev pub invariant-loop-place : goal.invariant-loop-place
-invariant-loop-place l =
-    Passes (holds (number_slot l.self) l.line) l.place
-    × (l.value ≡ number_from_digits l.self.base (map worth_of (take l.place l.line)))
-    × (l.value < l.self.base ^ l.place)
+invariant-loop-place g l =
+    Passes (holds (number_slot g.row.BASE g.row.COUNT l.fn.self) l.line) l.place
+    × (l.value ≡ number_from_digits g.row.BASE (map worth_of (take l.place l.line)))
+    × (l.value < g.row.BASE ^ l.place)
