@@ -3,7 +3,7 @@ ghost use Rattle.std.specs.Prelude.{◌≤◌};
 
 use crate::text::{legible, spelled};
 use fields::field::Field;
-use fields::numeral::{ID, Number};
+use fields::numeral::ID;
 use fields::padded::{LONG_SYMBOL, PARTICIPANT, Text};
 use std::fmt;
 
@@ -21,7 +21,7 @@ pub(crate) fn show_id<W: fmt::Write>(
     word: &str,
     value: u64,
 ) -> fmt::Result {
-    show_field::<W, Number, 12>(f, word, ID, value)
+    show_field::<W, _, 12>(f, word, ID, value)
 }
 
 // A symbol's number is the same in both of its widths, so the longer one shows all of it.

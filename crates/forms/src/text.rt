@@ -5,7 +5,7 @@ ghost use Rattle.forms.specs.Texts.{without_spaces, id_text, symbol_text};
 
 use crate::trim::trimmed;
 use fields::field::Field;
-use fields::numeral::{ID, Number};
+use fields::numeral::ID;
 use fields::padded::{LONG_SYMBOL, Text};
 use std::fmt;
 use std::str::from_utf8;
@@ -18,7 +18,7 @@ impl fmt::Display for IdText {
     ghost output = { λ t. Some (id_text t.0) };
 
     fn fmt<W: fmt::Write>(&self, f: &mut fmt::Formatter<W>) -> fmt::Result {
-        f.write_str(legible(&spelled::<Number, 12>(ID, self.0))?)
+        f.write_str(legible(&spelled::<_, 12>(ID, self.0))?)
     }
 }
 

@@ -2,7 +2,7 @@
 #[derive(Clone, Copy, PartialEq, Eq, Debug)]
 pub struct Spot {
     pub letter: u8,
-    pub offset: usize,
+    pub offset: u16,
 }
 
 // Why a field cannot be read or written.

@@ -43,8 +43,11 @@ impl<O: Store<Order>, E: Store<Execution>, S: Store<SymbolRow>> Ledger<O, E, S> 
         ensures says { result ≡ answer line.now self.old }
         ensures leaves { self.new ≡ next line.now self.old }
     {
-        let message = read(line)?;
-        self.take_message(&message)
+        // The message stays where it was read: it is large, and would be copied once more.
+        match &read(line) {
+            Ok(message) => self.take_message(message),
+            Err(fault) => Err((*fault).into()),
+        }
     }
 
     // The day limit comes first, and accepted messages are counted.
