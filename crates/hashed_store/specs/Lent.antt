@@ -1,8 +1,18 @@
--- The slots that lent memory makes.
-use Rattle.std.specs.Prelude.{Bool, cond, List, [], ◌∷◌, Some, None, Option}
+-- The slots that lent memory makes: a row each, and a tag, which is 0 where the slot is empty.
+use Rattle.std.specs.Prelude.{◌≡◌, ℕ, ◌+◌, ◌*◌, ◌/◌, ◌%◌, ◌^◌, ◌⊎◌, cond, List, [], ◌∷◌, Some, None, Option, nat_eq}
+
+-- The tag of a key is some of its bits, mixed, and is never 0: rows with different tags have different keys.
+unfoldable pub tag_of : ℕ → ℕ
+tag_of k = 128 + k * 11400714819323198485 % 2 ^ 64 / 2 ^ 57
 
 -- a row each, where it is in use
-abbrev pub slots_of : {X : Type 0} → List Bool → List X → List (Option X)
+abbrev pub slots_of : {X : Type 0} → List ℕ → List X → List (Option X)
 slots_of [] rows = []
-slots_of (u ∷ us) [] = []
-slots_of (u ∷ us) (r ∷ rs) = cond u (Some r) None ∷ slots_of us rs
+slots_of (t ∷ ts) [] = []
+slots_of (t ∷ ts) (r ∷ rs) = cond (nat_eq t 0) None (Some r) ∷ slots_of ts rs
+
+-- each tag is 0, or that of its row's key
+abbrev pub Tagged : {X : Type 0} → (X → ℕ) → List ℕ → List X → Type 0
+Tagged key [] rows = Unit {0}
+Tagged key (t ∷ ts) [] = Unit {0}
+Tagged key (t ∷ ts) (r ∷ rs) = ((t ≡ 0) ⊎ (t ≡ tag_of (key r))) × Tagged key ts rs

@@ -1,53 +1,85 @@
-// The slots: a row each, and beside them, in a slice of its own, whether it is in use. An empty slot is told by its byte alone, and the bytes of many
-// slots share a line of the cache.
-ghost use Rattle.std.specs.Prelude.{◌≡◌, ◌<◌, length, Some, None, replicate, slice_set};
-ghost use Rattle.hashed_store.specs.Lent.{slots_of};
+// The slots: a row each, and beside them, in a slice of its own, a tag, which is 0 where the slot is empty and else tells most keys from that of the row.
+// The tags of many slots share a line of the cache, so a search seldom looks at a row that it does not want.
+ghost use Rattle.std.specs.Prelude.{◌≡◌, ◌<◌, length, min, Some, None, replicate, slice_set};
+ghost use Rattle.hashed_store.specs.Lent.{slots_of, tag_of, Tagged};
+ghost use Rattle.hashed_store.specs.Looks.{Looked};
 ghost use Rattle.hashed_store.specs.Slots.{slot_at};
 
 use std::marker::Model;
+use store::record::Record;
 
 #[derive(Drop)]
-pub(crate) struct Slots<'a, R> {
-    used: &'a mut [bool],
+pub(crate) struct Slots<'a, R: Record> {
+    tags: &'a mut [u8],
     rows: &'a mut [R],
 }
 
-impl<'a, R> Model for Slots<'a, R> {
+impl<'a, R: Record> Model for Slots<'a, R> {
     ghost use Rattle.std.specs.Prelude.{List, Option};
-    ghost use Rattle.hashed_store.specs.Lent.{slots_of};
+    ghost use Rattle.hashed_store.specs.Lent.{slots_of, Tagged};
 
     ghost Value = { List (Option R) };
 
-    ghost view = { λ s. slots_of s.used.now s.rows.now };
+    ghost view = { λ s. slots_of s.tags.now s.rows.now };
+
+    ghost invariant = { λ s. Tagged R.Record.key s.tags.now s.rows.now };
 }
 
-impl<'a, R: Copy> Slots<'a, R> {
-    // As many slots as there are bytes and rows for.
-    pub(crate) fn new(used: &'a mut [bool], rows: &'a mut [R]) -> Slots<'a, R>
-        ensures { result ≡ slots_of used.old rows.old }
+// What a slot is to a search for a key.
+#[derive(Clone, Copy)]
+pub(crate) enum Look {
+    Empty,
+    // It holds a row of that key.
+    Wanted,
+    // It holds one of another key.
+    Other,
+}
+
+// A part of a hash of the key.
+#[tactic(auto, unfolding(crate::specs::Lent::tag_of))]
+pub(crate) fn tag(key: u64) -> u8
+    ensures { result ≡ tag_of key }
+{
+    128 + (key.wrapping_mul(11_400_714_819_323_198_485) >> 57) as u8
+}
+
+impl<'a, R: Record> Slots<'a, R> {
+    // As many slots as there are tags and rows for, all empty.
+    #[tactic(auto, using(crate::proofs::Lent::blank_slots, crate::proofs::Lent::tagged_blank))]
+    pub(crate) fn new(tags: &'a mut [u8], rows: &'a mut [R]) -> Slots<'a, R>
+        ensures { result ≡ replicate (min (length tags.old) (length rows.old)) None }
     {
-        Slots { used, rows }
+        tags.fill(0);
+        Slots { tags, rows }
     }
 
     #[tactic(auto, using(crate::proofs::Lent::length_slots))]
     pub(crate) fn len(&self) -> usize
         ensures { result ≡ length self.now }
     {
-        self.used.len().min(self.rows.len())
+        self.tags.len().min(self.rows.len())
     }
 
     pub(crate) fn get(&self, place: usize) -> Option<R>
         requires { place < length self.now }
         ensures { result ≡ slot_at self.now place }
     {
-        read(self.used, self.rows, place)
+        read(self.tags, self.rows, place)
+    }
+
+    // What the slot is to a search for a key with that tag.
+    pub(crate) fn look(&self, place: usize, key: u64, tag: u8) -> Look
+        requires { (place < length self.now) × (tag ≡ tag_of key) }
+        ensures { Looked R.Record.key key (slot_at self.now place) result }
+    {
+        look_at(self.tags, self.rows, place, key, tag)
     }
 
     pub(crate) fn set(&mut self, place: usize, slot: Option<R>)
         requires { place < length self.old }
         ensures { self.new ≡ slice_set self.old place slot }
     {
-        write(self.used, self.rows, place, slot);
+        write(self.tags, self.rows, place, slot);
     }
 
     // Takes what a slot holds out of it.
@@ -62,33 +94,57 @@ impl<'a, R: Copy> Slots<'a, R> {
     }
 
     // The rows stay as they are.
-    #[tactic(auto, using(crate::proofs::Lent::blank_slots))]
+    #[tactic(auto, using(crate::proofs::Lent::blank_tags, crate::proofs::Lent::tagged_blank))]
     pub(crate) fn clear(&mut self)
         ensures { self.new ≡ replicate (length self.old) None }
     {
-        self.used.fill(false);
+        self.tags.fill(0);
     }
 }
 
-#[tactic(auto, using(crate::proofs::Lent::below_used, crate::proofs::Lent::below_rows, crate::proofs::Lent::used_slot, crate::proofs::Lent::empty_slot))]
-fn read<R: Copy>(used: &[bool], rows: &[R], place: usize) -> Option<R>
-    requires { place < length (slots_of used.now rows.now) }
-    ensures { result ≡ slot_at (slots_of used.now rows.now) place }
+#[tactic(auto, using(crate::proofs::Lent::below_tags, crate::proofs::Lent::below_rows, crate::proofs::Lent::used_slot, crate::proofs::Lent::empty_slot))]
+fn read<R: Copy>(tags: &[u8], rows: &[R], place: usize) -> Option<R>
+    requires { place < length (slots_of tags.now rows.now) }
+    ensures { result ≡ slot_at (slots_of tags.now rows.now) place }
 {
-    if used[place] { Some(rows[place]) } else { None }
+    if tags[place] == 0 {
+        None
+    } else {
+        Some(rows[place])
+    }
 }
 
-#[tactic(auto, using(crate::proofs::Lent::below_used, crate::proofs::Lent::below_rows, crate::proofs::Lent::filled_slots, crate::proofs::Lent::emptied_slots))]
-fn write<R: Copy>(used: &mut [bool], rows: &mut [R], place: usize, slot: Option<R>)
-    requires { place < length (slots_of used.old rows.old) }
-    ensures { slots_of used.new rows.new ≡ slice_set (slots_of used.old rows.old) place slot }
+#[tactic(auto, using(crate::proofs::Lent::below_tags, crate::proofs::Lent::below_rows))]
+fn look_at<R: Record>(tags: &[u8], rows: &[R], place: usize, key: u64, tag: u8) -> Look
+    requires { (place < length (slots_of tags.now rows.now)) × (tag ≡ tag_of key) × Tagged R.Record.key tags.now rows.now }
+    ensures { Looked R.Record.key key (slot_at (slots_of tags.now rows.now) place) result }
+{
+    let held = tags[place];
+    if held == 0 {
+        return Look::Empty;
+    }
+    if held != tag {
+        return Look::Other;
+    }
+    if rows[place].key() == key {
+        Look::Wanted
+    } else {
+        Look::Other
+    }
+}
+
+#[tactic(auto, using(crate::proofs::Lent::below_tags, crate::proofs::Lent::below_rows, crate::proofs::Lent::filled_slots, crate::proofs::Lent::emptied_slots, crate::proofs::Lent::tagged_filled, crate::proofs::Lent::tagged_emptied))]
+fn write<R: Record>(tags: &mut [u8], rows: &mut [R], place: usize, slot: Option<R>)
+    requires { (place < length (slots_of tags.old rows.old)) × Tagged R.Record.key tags.old rows.old }
+    ensures sets { slots_of tags.new rows.new ≡ slice_set (slots_of tags.old rows.old) place slot }
+    ensures tagged { Tagged R.Record.key tags.new rows.new }
 {
     match slot {
         Some(row) => {
-            used[place] = true;
+            tags[place] = tag(row.key());
             rows[place] = row;
         }
         // The row stays as it is.
-        None => used[place] = false,
+        None => tags[place] = 0,
     }
 }

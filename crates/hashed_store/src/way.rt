@@ -3,7 +3,7 @@ ghost use Rattle.std.specs.Prelude.{◌≤◌, length};
 ghost use Rattle.hashed_store.specs.Ways.{Went};
 
 use crate::round::{home, next};
-use crate::slots::Slots;
+use crate::slots::{Look, Slots, tag};
 use store::record::Record;
 
 #[derive(Clone, Copy)]
@@ -25,13 +25,14 @@ pub(crate) fn way<R: Record>(slots: &Slots<'_, R>, key: u64, most: usize) -> End
     if count == 0 {
         return Ending::Past;
     }
+    let tag = tag(key);
     let mut place = home(key, count);
     // The steps taken are part of the answer. The place goes on beside them, since from the home and the steps it would cost a test for the end each time.
     for taken in 0..most {
-        match slots.get(place) {
-            None => return Ending::Gap(place, taken),
-            Some(held) if held.key() == key => return Ending::Here(place),
-            Some(_) => place = next(place, count),
+        match slots.look(place, key, tag) {
+            Look::Empty => return Ending::Gap(place, taken),
+            Look::Wanted => return Ending::Here(place),
+            Look::Other => place = next(place, count),
         }
     }
     Ending::Past
