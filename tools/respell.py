@@ -1,7 +1,7 @@
 #!/usr/bin/env python3
 """Spells the repository's definitions and lemmas in snake case, as the kit's own are.
 
-usage: python3 tools/respell.py [FOLDER]    FOLDER holds crates/; without it, the one this file lies in
+usage: python3 tools/respell.py FOLDER    FOLDER holds crates/, and is rewritten: a tree of the older spelling, never today's
 
 It was made for the change of kits that docs/PORT.md tells of, and goes over a tree that the kit's port.py has been over: proofs,
 definitions, clauses and must-fail edits. A word in camel case that begins with a small letter is a definition or a lemma, since functions
@@ -43,7 +43,9 @@ def respelled(text, is_definition, names):
 
 
 def main():
-    top = pathlib.Path(sys.argv[1] if len(sys.argv) > 1 else pathlib.Path(__file__).resolve().parent.parent)
+    if len(sys.argv) != 2:
+        sys.exit(__doc__)
+    top = pathlib.Path(sys.argv[1])
     files = [f for f in sorted((top / "crates").rglob("*")) if f.suffix in (".antt", ".rt", ".edit") and "out" not in f.parts]
     names, changed, words = {}, 0, set()
     for f in files:

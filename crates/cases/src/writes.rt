@@ -24,7 +24,7 @@ pub fn show_places(rt: &HostRuntime) -> io::Result<()> {
     Ok(())
 }
 
-// Records that no line gives: the first such field is named, also where there is no room.
+// A record that lacks nothing but room, and records that no line gives: the first such field is named, also where there is no room.
 pub fn show_fields(rt: &HostRuntime) -> io::Result<()> {
     let good = Terms {
         time: 34_200_000,

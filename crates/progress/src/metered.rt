@@ -8,7 +8,7 @@ use std::io;
 use std::io::{Read, Write};
 use std::time::{Clock, Instant};
 
-// Nanoseconds between two words.
+// Nanoseconds between two lines of progress.
 const PAUSE: u64 = 1_000_000_000;
 
 // Gives the bytes of the reader within as they are. Where the clock or the writing fails, nothing is told and reading goes on.

@@ -24,7 +24,7 @@ fn whole(value: Value) -> u128
     u128::from(value.high) * 10_000_000_000_000_000 + u128::from(value.low)
 }
 
-// The quotient, to the nearest whole number: half as much again before the rest is let go.
+// The quotient, to the nearest whole number: a half is added before the rest is let go.
 fn rounded(value: u128, shares: u128) -> u128
     requires { (0 < shares) × (shares < 2 ^ 64) × (value < 2 ^ 118) }
     ensures says { result ≡ rounded value shares }

@@ -28,6 +28,7 @@ pub fn open<R: BufRead, W: Write>(
             open_over(session, opening.front, RowStore::new(rows.as_mut_slice()))
         }
         Kind::Hashed => {
+            // All in use: opening empties the store, whatever the memory holds.
             let mut used = vec![in session.heap; true; opening.limit as usize]?;
             let mut rows = vec![in session.heap; Order::BLANK; opening.limit as usize]?;
             open_over(
