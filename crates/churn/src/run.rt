@@ -57,11 +57,11 @@ impl<'a> Bench<'a> {
                 self.run_over(kind, RowStore::new(rows.as_mut_slice()))?;
             }
             Kind::Hashed | Kind::FrontHashed => {
-                let mut used = vec![in self.rt.alloc(); false; slots]?;
+                let mut tags = vec![in self.rt.alloc(); 0u8; slots]?;
                 let mut rows = vec![in self.rt.alloc(); Order::BLANK; slots]?;
                 self.run_over(
                     kind,
-                    HashedStore::new(used.as_mut_slice(), rows.as_mut_slice()),
+                    HashedStore::new(tags.as_mut_slice(), rows.as_mut_slice()),
                 )?;
             }
         }

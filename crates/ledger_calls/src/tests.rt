@@ -73,13 +73,13 @@ fn nothing_is_answered_without_a_ledger(rt: HostRuntime) -> Result<(), Fail> {
 // The sample day over hashed stores, the orders' with a front row before it: what the row stores of the other tests answer.
 #[test]
 fn other_stores_answer_alike(rt: HostRuntime) -> Result<(), Fail> {
-    let (mut orders_used, mut orders) = ([false; 3], [Order::BLANK; 3]);
-    let (mut executions_used, mut executions) = ([false; 5], [Execution::BLANK; 5]);
-    let (mut symbols_used, mut symbols) = ([false; 2], [SymbolRow::BLANK; 2]);
+    let (mut order_tags, mut orders) = ([0; 3], [Order::BLANK; 3]);
+    let (mut execution_tags, mut executions) = ([0; 5], [Execution::BLANK; 5]);
+    let (mut symbol_tags, mut symbols) = ([0; 2], [SymbolRow::BLANK; 2]);
     let mut ledger = Ledger::open(
-        FrontRow::new(HashedStore::new(&mut orders_used, &mut orders)),
-        HashedStore::new(&mut executions_used, &mut executions),
-        HashedStore::new(&mut symbols_used, &mut symbols),
+        FrontRow::new(HashedStore::new(&mut order_tags, &mut orders)),
+        HashedStore::new(&mut execution_tags, &mut executions),
+        HashedStore::new(&mut symbol_tags, &mut symbols),
         9,
     );
     let mut input: &[u8] =

@@ -77,12 +77,12 @@ fn over_slots<R: BufRead, W: Write>(
     let mut orders = vec![in heap; Order::BLANK; room.orders as usize]?;
     let mut executions = vec![in heap; Execution::BLANK; room.executions as usize]?;
     let mut symbols = vec![in heap; SymbolRow::BLANK; slots as usize]?;
-    let mut of_orders = vec![in heap; false; room.orders as usize]?;
-    let mut of_executions = vec![in heap; false; room.executions as usize]?;
-    let mut of_symbols = vec![in heap; false; slots as usize]?;
-    let orders = HashedStore::new(of_orders.as_mut_slice(), orders.as_mut_slice());
-    let executions = HashedStore::new(of_executions.as_mut_slice(), executions.as_mut_slice());
-    let symbols = HashedStore::new(of_symbols.as_mut_slice(), symbols.as_mut_slice());
+    let mut order_tags = vec![in heap; 0u8; room.orders as usize]?;
+    let mut execution_tags = vec![in heap; 0u8; room.executions as usize]?;
+    let mut symbol_tags = vec![in heap; 0u8; slots as usize]?;
+    let orders = HashedStore::new(order_tags.as_mut_slice(), orders.as_mut_slice());
+    let executions = HashedStore::new(execution_tags.as_mut_slice(), executions.as_mut_slice());
+    let symbols = HashedStore::new(symbol_tags.as_mut_slice(), symbols.as_mut_slice());
     let symbols = Capped::new(symbols, room.symbols);
     over(
         options,

@@ -28,13 +28,13 @@ pub fn open<R: BufRead, W: Write>(
             open_over(session, opening.front, RowStore::new(rows.as_mut_slice()))
         }
         Kind::Hashed => {
-            // All in use: opening empties the store, whatever the memory holds.
-            let mut used = vec![in session.heap; true; opening.limit as usize]?;
+            // Not 0: the store empties its memory, whatever that holds.
+            let mut tags = vec![in session.heap; 255u8; opening.limit as usize]?;
             let mut rows = vec![in session.heap; Order::BLANK; opening.limit as usize]?;
             open_over(
                 session,
                 opening.front,
-                HashedStore::new(used.as_mut_slice(), rows.as_mut_slice()),
+                HashedStore::new(tags.as_mut_slice(), rows.as_mut_slice()),
             )
         }
     }
