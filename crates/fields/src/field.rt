@@ -1,8 +1,8 @@
 // What a field of a line is to its reader and its writer, whatever it holds.
 ghost use Rattle.std.specs.Prelude.{◌≡◌, ℕ, Ok, Err, MatchResult};
-ghost use Rattle.layout.specs.Slots.{Slot, width, read_slot, check_slot, in_range, scan_slot, givable, spell, over};
+ghost use Rattle.layout.specs.Slots.{Slot, width, check_slot, in_range, scan_slot, givable, spell, over};
 
-use crate::place::{Place, past};
+use crate::place::Place;
 use layout::fault::FieldFault;
 
 pub trait Field: Copy {
@@ -32,17 +32,6 @@ pub trait Field: Copy {
     // Writes the value over the bytes at the offset; where it does not fit, nothing.
     fn put(self, room: &mut [u8], offset: u8, value: Self::Value)
         ensures { room.new ≡ over offset (spell (slot self) (number self value)) room.old };
-
-    // The value at the front of the line, and what is left of the line.
-    fn read(self, line: &[u8], place: Place) -> Result<(Self::Value, &[u8]), FieldFault>
-        ensures { MatchResult result (λ p. read_slot (slot self) place.letter place.offset line.now ≡ Ok (number self p.0, p.1.now)) (λ e. read_slot (slot self) place.letter place.offset line.now ≡ Err e) }
-    {
-        match self.scan(line) {
-            Err(index) => Err(FieldFault::Byte(place.spot(index))),
-            Ok(value) if self.allows(value) => Ok((value, past(line, self.width()))),
-            Ok(_) => Err(FieldFault::Range(place.into())),
-        }
-    }
 
     // Refuses a value that no line gives.
     fn check(self, value: Self::Value, place: Place) -> Result<(), FieldFault>

@@ -9,5 +9,6 @@ pub mod numeral;
 pub mod padded;
 pub mod place;
 mod put;
+pub mod reading;
 mod table;
 pub mod text;

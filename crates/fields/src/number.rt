@@ -20,6 +20,7 @@ impl<const BASE: u64, const COUNT: u8> Field for Number<BASE, COUNT> {
         COUNT
     }
 
+    #[inline(always)]
     fn scan(self, line: &[u8]) -> Result<u64, u8> {
         match whole::<BASE, COUNT>(line) {
             Some(value) => Ok(value),
@@ -42,6 +43,7 @@ impl<const BASE: u64, const COUNT: u8> Field for Number<BASE, COUNT> {
 
 // Byte by byte, up to the first that is no digit.
 #[cold]
+#[inline(never)]
 fn step<const BASE: u64, const COUNT: u8>(line: &[u8]) -> Result<u64, u8>
     requires { (2 ≤ BASE) × (BASE ^ COUNT ≤ 2 ^ 64) }
     ensures { (low : ℕ) (high : ℕ) → MatchResult result (λ v. scan_slot (number BASE COUNT low high) line.now ≡ Ok v) (λ i. scan_slot (number BASE COUNT low high) line.now ≡ Err i) }
@@ -62,6 +64,7 @@ fn step<const BASE: u64, const COUNT: u8>(line: &[u8]) -> Result<u64, u8>
 }
 
 // The number of a field that has nothing but digits. They are counted, and none stops the others: so they are read side by side.
+#[inline(always)]
 fn whole<const BASE: u64, const COUNT: u8>(line: &[u8]) -> Option<u64>
     requires { (2 ≤ BASE) × (BASE ^ COUNT ≤ 2 ^ 64) }
     ensures { IfSome result (λ v. (low : ℕ) (high : ℕ) → scan_slot (number BASE COUNT low high) line.now ≡ Ok v) }

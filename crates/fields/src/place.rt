@@ -19,7 +19,7 @@ impl Place {
     {
         Spot {
             letter: self.letter,
-            offset: u16::from(self.offset) + u16::from(index),
+            offset: usize::from(self.offset) + usize::from(index),
         }
     }
 }
@@ -31,7 +31,7 @@ impl From<Place> for Spot {
     fn from(place: Place) -> Spot {
         Spot {
             letter: place.letter,
-            offset: u16::from(place.offset),
+            offset: usize::from(place.offset),
         }
     }
 }

@@ -2,7 +2,7 @@
 #[derive(Clone, Copy, PartialEq, Eq, Debug)]
 pub struct Spot {
     pub letter: u8,
-    pub offset: u16,
+    pub offset: usize,
 }
 
 // Why a field cannot be read or written.

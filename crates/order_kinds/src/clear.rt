@@ -7,6 +7,7 @@ ghost use Rattle.messages.specs.Values.{clear_values};
 use fields::field::Field;
 use fields::numeral::TIME;
 use fields::padded::LONG_SYMBOL;
+use fields::reading::Reading;
 use layout::fault::FieldFault;
 use messages::kind::Kind;
 use messages::message::Message;

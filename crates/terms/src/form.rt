@@ -13,6 +13,7 @@ use fields::field::Field;
 use fields::letter::Letter;
 use fields::numeral::{ID, PRICE, SHARES, TIME};
 use fields::padded::Text;
+use fields::reading::Reading;
 use layout::fault::FieldFault;
 use messages::kind::Kind;
 use messages::message::Message;

@@ -12,6 +12,7 @@ use fields::letter::Lettered;
 use fields::numeral::ID;
 use fields::padded::{PARTICIPANT, Text};
 use fields::place::Place;
+use fields::reading::Reading;
 use layout::fault::FieldFault;
 use messages::code::{CUSTOMER, DISPLAY, Side, TradeSide};
 use messages::record::{AddOrder, AttributedAdd, Terms, Trade};

@@ -6,6 +6,7 @@ ghost use Rattle.messages.specs.Values.{break_values};
 
 use fields::field::Field;
 use fields::numeral::{ID, TIME};
+use fields::reading::Reading;
 use layout::fault::FieldFault;
 use messages::kind::Kind;
 use messages::message::Message;
