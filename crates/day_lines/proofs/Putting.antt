@@ -1,5 +1,5 @@
 -- Lines that are put and printed one after the other.
-use Rattle.std.proofs.Common.{◌≡◌, ℕ, Bool, List, [], ◌∷◌, ◌++◌, length, drop, take, Option, Some, None, IfSome, Result, sym, refl, ap, subst, ◌∙◌, arith, append_assoc, append-nil, take-append-drop, length-take}
+use Rattle.std.proofs.Common.{◌≡◌, ℕ, Bool, List, [], ◌∷◌, ◌++◌, length, drop, take, Option, Some, None, IfSome, Result, sym, refl, ap, subst, ◌∙◌, arith, append_assoc, append-nil, take_all, ◌==◌, false, take-append-drop, length-take}
 use Rattle.std.specs.Io.{StartsWith}
 use Rattle.std.specs.Io.KnownBytes.{Appends}
 use Rattle.std.proofs.KnownBytes.{Appends-nil, Appends-trans}
@@ -151,3 +151,9 @@ all_told answers t e = subst (λ s. IsSeen s answers) (sym e) (all_counted answe
 
 pub begun_held : (b : LineBuffer) → Unended (held b) → lines_of (held b) ≡ begun_line (held b)
 begun_held b none = begun_all (held b) (omega (arith, length-take b.len b.bytes, b.inside)) none
+
+-- a line that was begun and goes on with nothing
+pub begun_alone : (b : LineBuffer) → (length (held b) == 0) ≡ false → begun_line (held b) ≡ take 255 (held b ++ []) ∷ []
+begun_alone b some =
+    let fits = take_all 255 (held b) (omega (arith, length-take b.len b.bytes, b.inside)) in
+    rw (some, append-nil, fits) refl

@@ -1,5 +1,5 @@
 // Putting lines to a ledger.
-ghost use Rattle.std.specs.Prelude.{◌≡◌, ◌<◌, true, [], ◌++◌, take, length, Some, None, MatchOption, IfSome, IfOk, OnOk};
+ghost use Rattle.std.specs.Prelude.{◌≡◌, ◌<◌, cond, true, [], ◌++◌, take, length, Some, None, MatchOption, IfSome, IfOk, OnOk};
 ghost use Rattle.std.specs.Io.KnownBytes.{Appends};
 ghost use Rattle.capture.specs.Lines.{lines_of};
 ghost use Rattle.capture.specs.Held.{held};
@@ -43,7 +43,7 @@ pub fn take_lines<R: BufRead, W: Write, O: Store<Order>, E: Store<Execution>, S:
         let piece = input.fill_buf()?;
         let count = piece.len();
         if count == 0 {
-            take_last(ledger, shown, &begun, &mut seen, output)?;
+            take_last(ledger, shown, &mut begun, &mut seen, output)?;
             return Ok(seen);
         }
         take_piece(ledger, shown, piece, &mut begun, &mut seen, output)?;
@@ -65,8 +65,9 @@ fn take_piece<W: Write, O: Store<Order>, E: Store<Execution>, S: Store<SymbolRow
 {
     let mut rest = piece;
     while let Some((end, next)) = cut_line(rest) {
-        let (number, answer) = put_end(ledger, begun, end, seen);
-        tell(shown, number, &answer, output)?;
+        // Not taken apart: the answer would be copied, and wait for what the ledger has written.
+        let answered = put(ledger, begun, end, seen);
+        tell(shown, answered.0, &answered.1, output)?;
         rest = next;
     }
     begun.extend(rest);
@@ -85,21 +86,21 @@ fn cut_line(bytes: &[u8]) -> Option<(&[u8], &[u8])>
 fn take_last<W: Write, O: Store<Order>, E: Store<Execution>, S: Store<SymbolRow>>(
     ledger: &mut Ledger<O, E, S>,
     shown: bool,
-    begun: &LineBuffer,
+    begun: &mut LineBuffer,
     seen: &mut Seen,
     output: &mut W,
 ) -> io::Result<()>
-    ensures { OnOk result (Taken shown (begun_line (held begun.now)) (W.contents output.old) (W.contents output.new) seen.old seen.new ledger.old ledger.new) }
+    ensures { OnOk result (Taken shown (begun_line (held begun.old)) (W.contents output.old) (W.contents output.new) seen.old seen.new ledger.old ledger.new) }
 {
     if begun.is_empty() {
         return Ok(());
     }
-    let (number, answer) = put(ledger, begun.line(), seen);
-    tell(shown, number, &answer, output)
+    let answered = put(ledger, begun, &[], seen);
+    tell(shown, answered.0, &answered.1, output)
 }
 
-// Puts the line that was begun and ends so to the ledger.
-fn put_end<O: Store<Order>, E: Store<Execution>, S: Store<SymbolRow>>(
+// Puts the line that was begun and ends so to the ledger, or what of it is passed on: its number, and what it is answered.
+fn put<O: Store<Order>, E: Store<Execution>, S: Store<SymbolRow>>(
     ledger: &mut Ledger<O, E, S>,
     begun: &mut LineBuffer,
     end: &[u8],
@@ -110,28 +111,27 @@ fn put_end<O: Store<Order>, E: Store<Execution>, S: Store<SymbolRow>>(
     ensures says { result ≡ (seen.new.lines.lines, answer (take 255 (held begun.old ++ end.now)) ledger.old) }
     ensures clears { held begun.new ≡ [] }
 {
-    // Most lines lie whole in the piece, and are not copied.
-    if begun.is_empty() && end.len() <= 255 {
-        return put(ledger, end, seen);
-    }
-    begun.extend(end);
-    let answered = put(ledger, begun.line(), seen);
+    let whole = is_whole(begun, end);
+    let answer = ledger.put(line_of(begun, end, whole));
     begun.clear();
-    answered
+    (seen.count(&answer), answer)
 }
 
-// Puts what of a line was passed on to the ledger: the line's number, and what it is answered.
-fn put<O: Store<Order>, E: Store<Execution>, S: Store<SymbolRow>>(
-    ledger: &mut Ledger<O, E, S>,
-    line: &[u8],
-    seen: &mut Seen,
-) -> (u64, Result<Outcome, LedgerFault>)
-    ensures leaves { ledger.new ≡ next line.now ledger.old }
-    ensures counts { seen.new ≡ one_seen (answer line.now ledger.old) seen.old }
-    ensures says { result ≡ (seen.new.lines.lines, answer line.now ledger.old) }
+// Whether the line that ends so lies whole in the piece, as most do: these are not copied. Others are gathered.
+fn is_whole(begun: &mut LineBuffer, end: &[u8]) -> bool
+    ensures { cond result end.now (held begun.new) ≡ take 255 (held begun.old ++ end.now) }
 {
-    let answer = ledger.put(line);
-    (seen.count(&answer), answer)
+    if begun.is_empty() && end.len() <= 255 {
+        return true;
+    }
+    begun.extend(end);
+    false
+}
+
+fn line_of<'a>(begun: &'a LineBuffer, end: &'a [u8], whole: bool) -> &'a [u8]
+    ensures { result.now ≡ cond whole end.now (held begun.now) }
+{
+    if whole { end } else { begun.line() }
 }
 
 // Prints a line's number and answer, if that is to be shown. Inlined, since the result is large, and would be written for each line that is not shown.
