@@ -1,2 +1,4 @@
+pub mod Failures
 pub mod Numbers
+pub mod Quotes
 pub mod Words
