@@ -1,4 +1,7 @@
 // The words of a program's command line.
+ghost use Rattle.std.specs.Prelude.{◌≡◌, map, IfOk};
+
+use std::alloc::Global;
 use std::env::{Env, FillError};
 use std::io;
 use std::io::ErrorKind;
@@ -18,6 +21,19 @@ pub fn arguments(rt: &HostRuntime) -> io::Result<Vec<Vec<u8>>> {
         }
     }
     Ok(words)
+}
+
+// Words as slices, by which they are read.
+pub fn bytes_of<'a>(heap: Global, words: &'a [Vec<u8>]) -> io::Result<Vec<&'a [u8]>>
+    ensures { IfOk result (λ slices. map (λ slice. slice.now) slices.items ≡ map (λ word. word.items) words.now) }
+{
+    let mut slices = Vec::new(heap);
+    for word in words {
+        if slices.push(word.as_slice()).is_err() {
+            return Err(ErrorKind::OutOfMemory.into());
+        }
+    }
+    Ok(slices)
 }
 
 // The word at a place, if there is one.

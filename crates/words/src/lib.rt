@@ -3,6 +3,7 @@
 
 pub mod arguments;
 pub mod cut;
+pub mod kind;
 pub mod named;
 pub mod number;
 pub mod program;
