@@ -5,6 +5,7 @@ use crate::even::Even;
 use crate::feed::Feed;
 use crate::kind::{KINDS, Kind};
 use crate::load::{LOADS, Load};
+use crate::mistake::Failure;
 use crate::watch::Watch;
 use front_row::front_row::FrontRow;
 use hashed_store::hashed::HashedStore;
@@ -15,6 +16,7 @@ use store::store::Store;
 use store::sweep::remove_picked;
 use store::walk::walk;
 use tally::sum::Counting;
+use words::arguments::bytes_of;
 
 // A million calls.
 const PART: u64 = 500_000;
@@ -29,8 +31,13 @@ struct Bench<'a> {
 }
 
 // Runs the load, or all of them, on the store, or on each.
-pub fn run(rt: &HostRuntime) -> anyhow::Result<()> {
-    let asked = read(rt)?;
+pub fn run<'a>(rt: &HostRuntime, words: &'a [Vec<u8>]) -> Result<(), Failure<'a>> {
+    let words = bytes_of(rt.alloc(), words)?;
+    let asked = read(words.as_slice())?;
+    Ok(run_asked(rt, asked)?)
+}
+
+fn run_asked(rt: &HostRuntime, asked: Arguments) -> io::Result<()> {
     let mut live = vec![in rt.alloc(); 0u64; asked.sizes.live]?;
     let mut bench = Bench {
         rt,
@@ -47,7 +54,7 @@ pub fn run(rt: &HostRuntime) -> anyhow::Result<()> {
 
 impl<'a> Bench<'a> {
     // Lends new memory to a store.
-    fn run_kind(&mut self, kind: Kind) -> anyhow::Result<()> {
+    fn run_kind(&mut self, kind: Kind) -> io::Result<()> {
         println!(self.rt; "(store {kind})")?;
         let slots = self.asked.sizes.slots;
         // An arm for each sort of memory, since a store borrows it. `store_calls` has the same two, and does something else over the stores.
