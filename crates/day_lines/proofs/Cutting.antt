@@ -60,6 +60,11 @@ front_kept (x ∷ xs) more none =
     ∙ ap (λ line. line ∷ lines_of (drop_through 10 more)) (take-front 255 (x ∷ xs) (before_end more))
     ∙ sym (begun_on (x ∷ xs) more none (omega arith))
 
+-- a line that lies whole in the piece
+pub whole_line : (begun end : List ℕ) → length begun ≡ 0 → length end ≤ 255 → take 255 (begun ++ end) ≡ end
+whole_line [] end none fits = take_all 255 end fits
+whole_line (x ∷ xs) end none fits = absurd (omega arith)
+
 -- all that was begun, where nothing more comes
 pub begun_all : (begun : List ℕ) → length begun ≤ 255 → Unended begun → lines_of begun ≡ begun_line begun
 begun_all [] fits none = refl

@@ -1,5 +1,5 @@
 // Putting lines to a ledger.
-ghost use Rattle.std.specs.Prelude.{◌≡◌, ◌<◌, true, length, Some, None, MatchOption, IfSome, IfOk, OnOk};
+ghost use Rattle.std.specs.Prelude.{◌≡◌, ◌<◌, true, [], ◌++◌, take, length, Some, None, MatchOption, IfSome, IfOk, OnOk};
 ghost use Rattle.std.specs.Io.KnownBytes.{Appends};
 ghost use Rattle.capture.specs.Lines.{lines_of};
 ghost use Rattle.capture.specs.Held.{held};
@@ -65,9 +65,8 @@ fn take_piece<W: Write, O: Store<Order>, E: Store<Execution>, S: Store<SymbolRow
 {
     let mut rest = piece;
     while let Some((end, next)) = cut_line(rest) {
-        begun.extend(end);
-        take(ledger, shown, begun, seen, output)?;
-        begun.clear();
+        let (number, answer) = put_end(ledger, begun, end, seen);
+        tell(shown, number, &answer, output)?;
         rest = next;
     }
     begun.extend(rest);
@@ -95,25 +94,58 @@ fn take_last<W: Write, O: Store<Order>, E: Store<Execution>, S: Store<SymbolRow>
     if begun.is_empty() {
         return Ok(());
     }
-    take(ledger, shown, begun, seen, output)
+    let (number, answer) = put(ledger, begun.line(), seen);
+    tell(shown, number, &answer, output)
 }
 
-// Puts what of a line was passed on to the ledger.
-fn take<W: Write, O: Store<Order>, E: Store<Execution>, S: Store<SymbolRow>>(
+// Puts the line that was begun and ends so to the ledger.
+fn put_end<O: Store<Order>, E: Store<Execution>, S: Store<SymbolRow>>(
     ledger: &mut Ledger<O, E, S>,
-    shown: bool,
-    line: &LineBuffer,
+    begun: &mut LineBuffer,
+    end: &[u8],
     seen: &mut Seen,
+) -> (u64, Result<Outcome, LedgerFault>)
+    ensures leaves { ledger.new ≡ next (take 255 (held begun.old ++ end.now)) ledger.old }
+    ensures counts { seen.new ≡ one_seen (answer (take 255 (held begun.old ++ end.now)) ledger.old) seen.old }
+    ensures says { result ≡ (seen.new.lines.lines, answer (take 255 (held begun.old ++ end.now)) ledger.old) }
+    ensures clears { held begun.new ≡ [] }
+{
+    // Most lines lie whole in the piece, and are not copied.
+    if begun.is_empty() && end.len() <= 255 {
+        return put(ledger, end, seen);
+    }
+    begun.extend(end);
+    let answered = put(ledger, begun.line(), seen);
+    begun.clear();
+    answered
+}
+
+// Puts what of a line was passed on to the ledger: the line's number, and what it is answered.
+fn put<O: Store<Order>, E: Store<Execution>, S: Store<SymbolRow>>(
+    ledger: &mut Ledger<O, E, S>,
+    line: &[u8],
+    seen: &mut Seen,
+) -> (u64, Result<Outcome, LedgerFault>)
+    ensures leaves { ledger.new ≡ next line.now ledger.old }
+    ensures counts { seen.new ≡ one_seen (answer line.now ledger.old) seen.old }
+    ensures says { result ≡ (seen.new.lines.lines, answer line.now ledger.old) }
+{
+    let answer = ledger.put(line);
+    (seen.count(&answer), answer)
+}
+
+// Prints a line's number and answer, if that is to be shown. Inlined, since the result is large, and would be written for each line that is not shown.
+#[inline(always)]
+fn tell<W: Write>(
+    shown: bool,
+    number: u64,
+    answer: &Result<Outcome, LedgerFault>,
     output: &mut W,
 ) -> io::Result<()>
-    ensures leaves { ledger.new ≡ next (held line.now) ledger.old }
-    ensures counts { seen.new ≡ one_seen (answer (held line.now) ledger.old) seen.old }
-    ensures says { OnOk result (Appends (W.contents output.old) (W.contents output.new) (answer_line shown seen.new.lines.lines (answer (held line.now) ledger.old))) }
+    ensures { OnOk result (Appends (W.contents output.old) (W.contents output.new) (answer_line shown number answer.now)) }
 {
-    let answer = ledger.put(line.line());
-    let number = seen.count(&answer);
     if shown {
-        print(number, &answer, output)
+        print(number, answer, output)
     } else {
         Ok(())
     }

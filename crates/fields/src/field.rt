@@ -33,23 +33,11 @@ pub trait Field: Copy {
     fn put(self, room: &mut [u8], offset: u8, value: Self::Value)
         ensures { room.new ≡ over offset (spell (slot self) (number self value)) room.old };
 
-    // The same, of the field's own bytes: their number is known when this is compiled, and no loop is left of the scan.
-    #[inline(always)]
-    fn scan_front(self, line: &[u8]) -> Result<Self::Value, u8>
-        ensures { MatchResult result (λ v. scan_slot (slot self) line.now ≡ Ok (number self v)) (λ i. scan_slot (slot self) line.now ≡ Err i) }
-    {
-        match line.get(..usize::from(self.width())) {
-            Some(held) => self.scan(held),
-            None => self.scan(line),
-        }
-    }
-
     // The value at the front of the line, and what is left of the line.
-    #[inline(always)]
     fn read(self, line: &[u8], place: Place) -> Result<(Self::Value, &[u8]), FieldFault>
         ensures { MatchResult result (λ p. read_slot (slot self) place.letter place.offset line.now ≡ Ok (number self p.0, p.1.now)) (λ e. read_slot (slot self) place.letter place.offset line.now ≡ Err e) }
     {
-        match self.scan_front(line) {
+        match self.scan(line) {
             Err(index) => Err(FieldFault::Byte(place.spot(index))),
             Ok(value) if self.allows(value) => Ok((value, past(line, self.width()))),
             Ok(_) => Err(FieldFault::Range(place.into())),

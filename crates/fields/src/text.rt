@@ -22,7 +22,6 @@ impl Field for Text {
     }
 
     // As for numbers, but for the rule of a byte and for what is carried from one to the next: one scan for both would take both as closures.
-    #[inline(always)]
     fn scan(self, line: &[u8]) -> Result<u64, u8> {
         let held = front(line, self.width);
         let mut value = 0;
