@@ -12,12 +12,28 @@ fn mistakes(rt: &impl Abort, words: &[&[u8]], mistake: Mistake<'_>) {
 
 #[test]
 fn each_wrong_word_is_told(rt: HostRuntime) -> Result<(), Fail> {
-    mistakes(&rt, &[b"tree", b"all", b"1", b"1", b"1"], Mistake::Store(b"tree"));
+    mistakes(
+        &rt,
+        &[b"tree", b"all", b"1", b"1", b"1"],
+        Mistake::Store(b"tree"),
+    );
     mistakes(&rt, &[b"all", b"", b"1", b"1", b"1"], Mistake::Load(b""));
-    mistakes(&rt, &[b"all", b"all", b"x", b"1", b"1"], Mistake::Size(b"x"));
-    mistakes(&rt, &[b"all", b"all", b"1", b"-1", b"1"], Mistake::Size(b"-1"));
+    mistakes(
+        &rt,
+        &[b"all", b"all", b"x", b"1", b"1"],
+        Mistake::Size(b"x"),
+    );
+    mistakes(
+        &rt,
+        &[b"all", b"all", b"1", b"-1", b"1"],
+        Mistake::Size(b"-1"),
+    );
     mistakes(&rt, &[b"all", b"all", b"1", b"1", b""], Mistake::Size(b""));
-    mistakes(&rt, &[b"all", b"all", b"1", b"1", b"1", b"times"], Mistake::Last(b"times"));
+    mistakes(
+        &rt,
+        &[b"all", b"all", b"1", b"1", b"1", b"times"],
+        Mistake::Last(b"times"),
+    );
     Ok(())
 }
 
@@ -25,7 +41,11 @@ fn each_wrong_word_is_told(rt: HostRuntime) -> Result<(), Fail> {
 fn words_are_five_or_six(rt: HostRuntime) -> Result<(), Fail> {
     mistakes(&rt, &[], Mistake::Count);
     mistakes(&rt, &[b"all", b"all", b"1", b"1"], Mistake::Count);
-    mistakes(&rt, &[b"all", b"all", b"1", b"1", b"1", b"time", b"time"], Mistake::Count);
+    mistakes(
+        &rt,
+        &[b"all", b"all", b"1", b"1", b"1", b"time", b"time"],
+        Mistake::Count,
+    );
     Ok(())
 }
 
