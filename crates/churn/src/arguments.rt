@@ -69,7 +69,10 @@ fn load<'a>(word: &'a [u8]) -> Result<Option<Load>, Mistake<'a>> {
 
 // No name, if the word asks for all.
 fn all<T>(word: &[u8]) -> Option<Option<T>> {
-    if word == b"all" { Some(None) } else { None }
+    match word {
+        b"all" => Some(None),
+        _ => None,
+    }
 }
 
 fn size<'a>(word: &'a [u8]) -> Result<u64, Mistake<'a>> {
@@ -77,12 +80,11 @@ fn size<'a>(word: &'a [u8]) -> Result<u64, Mistake<'a>> {
 }
 
 fn timed<'a>(words: &[&'a [u8]]) -> Result<bool, Mistake<'a>> {
-    let Some(word) = words.first() else {
-        return Ok(false);
-    };
-    if *word == b"time" {
-        Ok(true)
-    } else {
-        Err(Mistake::Last(*word))
+    match words.first() {
+        None => Ok(false),
+        Some(word) => match *word {
+            b"time" => Ok(true),
+            other => Err(Mistake::Last(other)),
+        },
     }
 }
