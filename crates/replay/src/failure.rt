@@ -27,7 +27,11 @@ impl fmt::Display for Failure<'_> {
         match self {
             Failure::Command(complaint) => write!(f, "{complaint} (--help shows the usage)"),
             Failure::Name(name) => {
-                write!(f, "a file's name has to be UTF-8, and {} is not", Quoted(*name))
+                write!(
+                    f,
+                    "a file's name has to be UTF-8, and {} is not",
+                    Quoted(*name)
+                )
             }
             Failure::File(name, error) => write!(f, "{}: {error}", Quoted(*name)),
             Failure::Other(error) if error.kind() == ErrorKind::OutOfMemory => {

@@ -49,11 +49,7 @@ fn told<'a>(words: &'a [Vec<u8>], wrong: Wrong) -> Failure<'a> {
     })
 }
 
-fn replay_file<'a>(
-    rt: &HostRuntime,
-    options: &Options,
-    name: &'a [u8],
-) -> Result<(), Failure<'a>> {
+fn replay_file<'a>(rt: &HostRuntime, options: &Options, name: &'a [u8]) -> Result<(), Failure<'a>> {
     let Ok(path) = from_utf8(name) else {
         return Err(Failure::Name(name));
     };
