@@ -1,5 +1,5 @@
 -- How much of an input has passed, how fast, and how that is shown.
-use Rattle.std.specs.Prelude.{◌≡◌, ◌⊎◌, ◌≤◌, ℕ, ◌+◌, ◌-◌, ◌*◌, ◌/◌, ◌%◌, ◌^◌, cond, List, [], ◌∷◌, ◌++◌, length, min, codes, decimal, ◌==◌}
+use Rattle.std.specs.Prelude.{◌≡◌, ◌⊎◌, ◌≤◌, ℕ, ◌+◌, ◌-◌, ◌*◌, ◌/◌, ◌%◌, ◌^◌, cond, List, ◌++◌, length, min, codes, decimal, ◌==◌}
 use Rattle.std.specs.List.{filter}
 use Rattle.progress.specs.declared.pace.Passed.{Passed}
 
