@@ -3,18 +3,15 @@ use Rattle.std.specs.Prelude.{ℕ, Bool, true, false, cond, List, [], ◌∷◌,
 use Rattle.std.specs.Str.{bytes_eq}
 use Rattle.calls.specs.declared.call.Call.{Call}
 use Rattle.calls.specs.declared.call.Call.TheVariants.{Insert, Find, From, Replace, Remove, Stands, Count, Limit, Empty}
-use Rattle.calls.specs.declared.call.Kind.{Kind}
 use Rattle.calls.specs.declared.call.Request.{Request}
 use Rattle.calls.specs.declared.call.Request.TheVariants.{Open, Ask}
 use Rattle.calls.specs.declared.verb.Verb.{Verb}
 use Rattle.calls.specs.declared.verb.Verb.TheVariants as verb
+use Rattle.words.specs.declared.kind.Kind.{Kind}
+use Rattle.words.specs.Kinds.{kind_meant}
 use Rattle.words.specs.Numbers.{number_of, one_of}
-use Rattle.calls.specs.Verbs.{verb_meant, kind_of}
-use Rattle.words.specs.Words.{words, no_more}
-
--- no word
-abbrev pub bare_of : Call → List (List ℕ) → Option Call
-bare_of call ws = cond (no_more ws) (Some call) None
+use Rattle.calls.specs.Verbs.{verb_meant}
+use Rattle.words.specs.Words.{words, bare}
 
 abbrev pub keyed : (ℕ → Call) → Option ℕ → Option Request
 keyed call None = None
@@ -42,7 +39,7 @@ sized front (Some kind) (Some n) = cond (nat_le n 4096) (Some (Open (record { fr
 
 abbrev pub shaped_of : Bool → List (List ℕ) → Option Request
 shaped_of front [] = None
-shaped_of front (w ∷ ws) = sized front (kind_of w) (one_of ws)
+shaped_of front (w ∷ ws) = sized front (kind_meant w) (one_of ws)
 
 -- with the word front before it or not
 abbrev pub opening_of : List (List ℕ) → Option Request
@@ -58,9 +55,9 @@ verb_asks (Some verb.From) ws = keyed From (one_of ws)
 verb_asks (Some verb.Replace) ws = paired Replace (two_of ws)
 verb_asks (Some verb.Remove) ws = keyed Remove (one_of ws)
 verb_asks (Some verb.Stands) ws = keyed Stands (one_of ws)
-verb_asks (Some verb.Count) ws = option_map Ask (bare_of Count ws)
-verb_asks (Some verb.Limit) ws = option_map Ask (bare_of Limit ws)
-verb_asks (Some verb.Empty) ws = option_map Ask (bare_of Empty ws)
+verb_asks (Some verb.Count) ws = option_map Ask (bare Count ws)
+verb_asks (Some verb.Limit) ws = option_map Ask (bare Limit ws)
+verb_asks (Some verb.Empty) ws = option_map Ask (bare Empty ws)
 
 abbrev pub words_ask : List (List ℕ) → Option Request
 words_ask [] = None

@@ -1,8 +1,6 @@
 -- The words of the calls.
 use Rattle.std.specs.Prelude.{ℕ, cond, List, Some, None, codes, Option}
 use Rattle.std.specs.Str.{bytes_eq}
-use Rattle.calls.specs.declared.call.Kind.{Kind}
-use Rattle.calls.specs.declared.call.Kind.TheVariants.{Row, Hashed}
 use Rattle.calls.specs.declared.verb.Verb.{Verb}
 use Rattle.calls.specs.declared.verb.Verb.TheVariants.{Store, Insert, Find, From, Replace, Remove, Stands, Count, Limit, Empty}
 
@@ -18,6 +16,3 @@ verb_meant w =
     (cond (bytes_eq w (codes "count")) (Some Count)
     (cond (bytes_eq w (codes "limit")) (Some Limit)
     (cond (bytes_eq w (codes "empty")) (Some Empty) None)))))))))
-
-abbrev pub kind_of : List ℕ → Option Kind
-kind_of w = cond (bytes_eq w (codes "row")) (Some Row) (cond (bytes_eq w (codes "hashed")) (Some Hashed) None)

@@ -1,11 +1,6 @@
 // What a line can ask for.
 
-// What the records of a new store stand in.
-#[derive(Clone, Copy, PartialEq, Eq, Debug)]
-pub enum Kind {
-    Row,
-    Hashed,
-}
+use words::kind::Kind;
 
 // A store to open: its kind, with a front before it or none, over memory for so many records.
 #[derive(Clone, Copy, PartialEq, Eq, Debug)]

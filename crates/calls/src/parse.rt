@@ -1,11 +1,12 @@
 // What a line asks for.
 ghost use Rattle.std.specs.Prelude.{◌≡◌};
-ghost use Rattle.calls.specs.Requests.{request_of, opening_of, shaped_of, two_of, bare_of};
+ghost use Rattle.calls.specs.Requests.{request_of, opening_of, shaped_of, two_of};
 ghost use Rattle.words.specs.Words.{words, words_after};
 
 use crate::call::{Call, Opening, Request};
-use crate::verb::{Verb, kind_of, verb_of};
-use words::cut::{after_space, cut, ends};
+use crate::verb::{Verb, verb_of};
+use words::cut::{after_space, alone, cut};
+use words::kind::kind_of;
 use words::number::{number, one_number};
 
 // No line opens a store of more records.
@@ -34,13 +35,6 @@ pub fn parse(line: &[u8]) -> Option<Request>
         Verb::Empty => alone(Call::Empty, rest)?,
     };
     Some(Request::Ask(call))
-}
-
-// The call, if nothing stands after its verb.
-fn alone(call: Call, rest: &[u8]) -> Option<Call>
-    ensures { result ≡ bare_of call (words_after rest.now) }
-{
-    ends(rest).then_some(call)
 }
 
 fn two_numbers(rest: &[u8]) -> Option<(u64, u64)>

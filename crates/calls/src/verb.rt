@@ -1,8 +1,6 @@
 // The words that a line begins with.
 ghost use Rattle.std.specs.Prelude.{◌≡◌};
-ghost use Rattle.calls.specs.Verbs.{verb_meant, kind_of};
-
-use crate::call::Kind;
+ghost use Rattle.calls.specs.Verbs.{verb_meant};
 
 #[derive(Clone, Copy)]
 pub(crate) enum Verb {
@@ -18,7 +16,7 @@ pub(crate) enum Verb {
     Empty,
 }
 
-// No `TryFrom`, here and below: the parser goes by options, and a word that means nothing has no more to say.
+// No `TryFrom`: the parser goes by options, and a word that means nothing has no more to say.
 pub(crate) fn verb_of(word: &[u8]) -> Option<Verb>
     ensures { result ≡ verb_meant word.now }
 {
@@ -33,16 +31,6 @@ pub(crate) fn verb_of(word: &[u8]) -> Option<Verb>
         b"count" => Some(Verb::Count),
         b"limit" => Some(Verb::Limit),
         b"empty" => Some(Verb::Empty),
-        _ => None,
-    }
-}
-
-pub(crate) fn kind_of(word: &[u8]) -> Option<Kind>
-    ensures { result ≡ kind_of word.now }
-{
-    match word {
-        b"row" => Some(Kind::Row),
-        b"hashed" => Some(Kind::Hashed),
         _ => None,
     }
 }

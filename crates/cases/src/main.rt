@@ -5,10 +5,18 @@
 mod examples;
 mod writes;
 
-use std::io;
+use std::process::ExitCode;
+use words::named::Named;
+use words::program::{Failure, ended, no_words};
 
-fn main(rt: HostRuntime) -> io::Result<()> {
+fn main(rt: HostRuntime) -> ExitCode {
+    ended(&rt, "cases", show(&rt))
+}
+
+fn show(rt: &HostRuntime) -> Result<(), Failure> {
+    no_words(rt)?;
     examples::hold();
-    writes::show_places(&rt)?;
-    writes::show_fields(&rt)
+    let mut output = Named::new("standard output", rt.alloc(), rt.stdout());
+    writes::show_places(&mut output)?;
+    Ok(writes::show_fields(&mut output)?)
 }

@@ -5,6 +5,7 @@ use messages::message::Message;
 use messages::record::{AddOrder, Cancel, Terms};
 use pitch::writer::write;
 use std::io;
+use std::io::Write;
 
 const EMPTY: [u8; 32] = [b'.'; 32];
 
@@ -12,20 +13,20 @@ const EMPTY: [u8; 32] = [b'.'; 32];
 const ABCD: u64 = 0x4142_4344_2020_2020;
 
 // A line of 27 bytes at places where it just fits, just does not, and at and past the end.
-pub fn show_places(rt: &HostRuntime) -> io::Result<()> {
+pub fn show_places<W: Write>(output: &mut W) -> io::Result<()> {
     let cancel = Message::OrderCancel(Cancel {
         time: 34_200_020,
         order: 361,
         shares: 300,
     });
     for place in [0, 5, 6, 32, 33, usize::MAX] {
-        show(rt, &cancel, place)?;
+        show(output, &cancel, place)?;
     }
     Ok(())
 }
 
 // A record that lacks nothing but room, and records that no line gives: the first such field is named, also where there is no room.
-pub fn show_fields(rt: &HostRuntime) -> io::Result<()> {
+pub fn show_fields<W: Write>(output: &mut W) -> io::Result<()> {
     let good = Terms {
         time: 34_200_000,
         order: 361,
@@ -57,13 +58,13 @@ pub fn show_fields(rt: &HostRuntime) -> io::Result<()> {
         Terms { symbol: 0, ..good },
     ];
     for terms in cases {
-        show(rt, &quoted(terms), 0)?;
+        show(output, &quoted(terms), 0)?;
     }
     let dear = Terms {
         price: 10_000_000_000,
         ..good
     };
-    show(rt, &quoted(dear), 33)
+    show(output, &quoted(dear), 33)
 }
 
 fn quoted(terms: Terms<Side>) -> Message {
@@ -73,15 +74,15 @@ fn quoted(terms: Terms<Side>) -> Message {
     })
 }
 
-fn show(rt: &HostRuntime, message: &Message, place: usize) -> io::Result<()> {
+fn show<W: Write>(output: &mut W, message: &Message, place: usize) -> io::Result<()> {
     let mut buf = EMPTY;
     let answer = write(message, &mut buf, place);
     let held = std::str::from_utf8(&buf).unwrap_or("not text");
     match answer {
-        Ok(size) => println!(rt; "(place {place} (wrote {size}) {held})"),
+        Ok(size) => writeln!(output, "(place {place} (wrote {size}) {held})"),
         Err(fault) => {
             let refusal = Refusal(&fault);
-            println!(rt; "(place {place} {refusal} {held})")
+            writeln!(output, "(place {place} {refusal} {held})")
         }
     }
 }

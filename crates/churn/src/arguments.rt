@@ -1,24 +1,22 @@
 // What the program is asked.
-use crate::kind::Kind;
-use crate::load::Load;
-use anyhow::Context;
-use std::env;
+use crate::kind::{KINDS, Kind};
+use crate::load::{LOADS, Load};
+use crate::mistake::Mistake;
+use words::number::number;
 
-#[derive(Clone, Copy)]
+#[derive(Clone, Copy, PartialEq, Eq, Debug)]
 pub struct Sizes {
     pub slots: usize,
     pub live: usize,
     pub pairs: u64,
 }
 
-// The two words stay as they were given: beside a name and `all` there is a third case, a word that names nothing and runs nothing, which no `Option`
-// has.
-#[derive(Drop)]
+#[derive(Clone, Copy, PartialEq, Eq, Debug)]
 pub struct Arguments {
-    // a store's name, or `all`
-    pub store: String,
-    // a load's name, or `all`
-    pub load: String,
+    // none where all are asked for
+    pub store: Option<Kind>,
+    // likewise
+    pub load: Option<Load>,
     pub sizes: Sizes,
     pub timed: bool,
 }
@@ -26,38 +24,67 @@ pub struct Arguments {
 impl Arguments {
     // Whether loads are to be run on a store.
     pub fn names(&self, kind: Kind) -> bool {
-        asks(&self.store, kind.name())
+        self.store.is_none() || self.store == Some(kind)
     }
 
     // Whether a load is to be run.
     pub fn takes(&self, load: Load) -> bool {
-        asks(&self.load, load.name())
+        self.load.is_none() || self.load == Some(load)
     }
 }
 
-// Whether a word asks for what has a name.
-fn asks(word: &str, name: &str) -> bool {
-    word == "all" || word == name
-}
-
-pub fn read(rt: &HostRuntime) -> anyhow::Result<Arguments> {
-    let mut words = env::args(rt)?;
-    let _program = words.next();
-    let store = words.next().context("no store")?;
-    let load = words.next().context("no load")?;
-    let sizes = Sizes {
-        slots: number(words.next())? as usize,
-        live: number(words.next())? as usize,
-        pairs: number(words.next())?,
-    };
+pub fn read<'a>(words: &[&'a [u8]]) -> Result<Arguments, Mistake<'a>> {
+    if words.len() < 5 || words.len() > 6 {
+        return Err(Mistake::Count);
+    }
     Ok(Arguments {
-        store,
-        load,
-        sizes,
-        timed: words.next().is_some(),
+        store: store(words[0])?,
+        load: load(words[1])?,
+        sizes: Sizes {
+            slots: size(words[2])? as usize,
+            live: size(words[3])? as usize,
+            pairs: size(words[4])?,
+        },
+        timed: timed(&words[5..])?,
     })
 }
 
-fn number(word: Option<String>) -> anyhow::Result<u64> {
-    Ok(word.context("no size")?.as_str().parse()?)
+fn store<'a>(word: &'a [u8]) -> Result<Option<Kind>, Mistake<'a>> {
+    for kind in KINDS {
+        if word == kind.name().as_bytes() {
+            return Ok(Some(kind));
+        }
+    }
+    all(word).ok_or(Mistake::Store(word))
+}
+
+fn load<'a>(word: &'a [u8]) -> Result<Option<Load>, Mistake<'a>> {
+    for load in LOADS {
+        if word == load.name().as_bytes() {
+            return Ok(Some(load));
+        }
+    }
+    all(word).ok_or(Mistake::Load(word))
+}
+
+// No name, if the word asks for all.
+fn all<T>(word: &[u8]) -> Option<Option<T>> {
+    match word {
+        b"all" => Some(None),
+        _ => None,
+    }
+}
+
+fn size<'a>(word: &'a [u8]) -> Result<u64, Mistake<'a>> {
+    number(word).ok_or(Mistake::Size(word))
+}
+
+fn timed<'a>(words: &[&'a [u8]]) -> Result<bool, Mistake<'a>> {
+    match words.first() {
+        None => Ok(false),
+        Some(word) => match *word {
+            b"time" => Ok(true),
+            other => Err(Mistake::Last(other)),
+        },
+    }
 }

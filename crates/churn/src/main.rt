@@ -9,11 +9,22 @@ mod even;
 mod feed;
 mod kind;
 mod load;
+mod mistake;
 mod orders;
 mod random;
 mod run;
+#[cfg(test)]
+mod tests;
 mod watch;
 
-fn main(rt: HostRuntime) -> anyhow::Result<()> {
-    run::run(&rt)
+use run::run;
+use std::process::ExitCode;
+use words::arguments::arguments;
+use words::program::ended;
+
+fn main(rt: HostRuntime) -> ExitCode {
+    match arguments(&rt) {
+        Ok(words) => ended(&rt, "churn", run(&rt, words.as_slice())),
+        Err(error) => ended(&rt, "churn", Err(error)),
+    }
 }

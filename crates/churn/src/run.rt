@@ -5,16 +5,21 @@ use crate::even::Even;
 use crate::feed::Feed;
 use crate::kind::{KINDS, Kind};
 use crate::load::{LOADS, Load};
+use crate::mistake::Failure;
 use crate::watch::Watch;
 use front_row::front_row::FrontRow;
 use hashed_store::hashed::HashedStore;
 use records::order::Order;
 use row_store::row::RowStore;
 use std::io;
+use std::io::Write;
+use std::rt::Stdout;
 use store::store::Store;
 use store::sweep::remove_picked;
 use store::walk::walk;
 use tally::sum::Counting;
+use words::arguments::bytes_of;
+use words::named::Named;
 
 // A million calls.
 const PART: u64 = 500_000;
@@ -23,17 +28,24 @@ const PART: u64 = 500_000;
 #[derive(Drop)]
 struct Bench<'a> {
     rt: &'a HostRuntime,
+    output: Named<Stdout>,
     asked: &'a Arguments,
     // the IDs of the orders that live
     live: &'a mut [u64],
 }
 
 // Runs the load, or all of them, on the store, or on each.
-pub fn run(rt: &HostRuntime) -> anyhow::Result<()> {
-    let asked = read(rt)?;
+pub fn run<'a>(rt: &HostRuntime, words: &'a [Vec<u8>]) -> Result<(), Failure<'a>> {
+    let words = bytes_of(rt.alloc(), words)?;
+    let asked = read(words.as_slice())?;
+    Ok(run_asked(rt, asked)?)
+}
+
+fn run_asked(rt: &HostRuntime, asked: Arguments) -> io::Result<()> {
     let mut live = vec![in rt.alloc(); 0u64; asked.sizes.live]?;
     let mut bench = Bench {
         rt,
+        output: Named::new("standard output", rt.alloc(), rt.stdout()),
         asked: &asked,
         live: live.as_mut_slice(),
     };
@@ -47,8 +59,8 @@ pub fn run(rt: &HostRuntime) -> anyhow::Result<()> {
 
 impl<'a> Bench<'a> {
     // Lends new memory to a store.
-    fn run_kind(&mut self, kind: Kind) -> anyhow::Result<()> {
-        println!(self.rt; "(store {kind})")?;
+    fn run_kind(&mut self, kind: Kind) -> io::Result<()> {
+        writeln!(self.output, "(store {kind})")?;
         let slots = self.asked.sizes.slots;
         // An arm for each sort of memory, since a store borrows it. `store_calls` has the same two, and does something else over the stores.
         match kind {
@@ -92,33 +104,33 @@ impl<'a> Bench<'a> {
         store.empty();
         let mut watch = Watch::new(self.rt, self.asked.timed)?;
         counts.fill(store, &mut feed, self.live);
-        watch.lap(self.rt, "fill", self.live.len() as u64)?;
+        watch.lap(self.rt, &mut self.output, "fill", self.live.len() as u64)?;
         let pairs = self.asked.sizes.pairs;
         for first in (0..pairs).step_by(PART as usize) {
             let part = PART.min(pairs - first);
             counts.churn(store, &mut feed, self.live, part);
-            watch.lap(self.rt, "churn", part * 2)?;
+            watch.lap(self.rt, &mut self.output, "churn", part * 2)?;
         }
         self.walk_and_sweep(store, &mut counts, &mut watch)?;
-        println!(self.rt; "({load} {counts})")
+        writeln!(self.output, "({load} {counts})")
     }
 
     // Walks over what is held, sweeps, walks again, and once more when the store is emptied.
     fn walk_and_sweep<S: Store<Order>>(
-        &self,
+        &mut self,
         store: &mut S,
         counts: &mut Counts,
         watch: &mut Watch,
     ) -> io::Result<()> {
         counts.met = walk(store, &Counting).number;
-        watch.lap(self.rt, "walk", counts.met)?;
+        watch.lap(self.rt, &mut self.output, "walk", counts.met)?;
         counts.swept = remove_picked(store, &Even, &Counting).number;
-        watch.lap(self.rt, "sweep", counts.met)?;
+        watch.lap(self.rt, &mut self.output, "sweep", counts.met)?;
         counts.kept = walk(store, &Counting).number;
-        watch.lap(self.rt, "walk-kept", counts.kept)?;
+        watch.lap(self.rt, &mut self.output, "walk-kept", counts.kept)?;
         store.empty();
-        watch.lap(self.rt, "empty", 1)?;
+        watch.lap(self.rt, &mut self.output, "empty", 1)?;
         counts.left = walk(store, &Counting).number;
-        watch.lap(self.rt, "walk-emptied", counts.left)
+        watch.lap(self.rt, &mut self.output, "walk-emptied", counts.left)
     }
 }

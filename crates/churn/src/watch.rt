@@ -1,5 +1,6 @@
 // How long the parts of a load take.
 use std::io;
+use std::io::Write;
 use std::time::Instant;
 
 #[derive(Clone, Copy)]
@@ -15,12 +16,18 @@ impl Watch {
     }
 
     // Prints how long the calls since the last one took, and starts anew.
-    pub fn lap(&mut self, rt: &HostRuntime, part: &str, calls: u64) -> io::Result<()> {
+    pub fn lap<W: Write>(
+        &mut self,
+        rt: &HostRuntime,
+        output: &mut W,
+        part: &str,
+        calls: u64,
+    ) -> io::Result<()> {
         let Some(start) = self.start else {
             return Ok(());
         };
         let nanos = start.elapsed(rt)?.as_nanos();
-        println!(rt; "(took {part} (calls {calls}) (ns {nanos}))")?;
+        writeln!(output, "(took {part} (calls {calls}) (ns {nanos}))")?;
         self.start = Some(Instant::now(rt)?);
         Ok(())
     }

@@ -58,8 +58,8 @@ impl<S: Store<Order>> Store<Order> for FrontRow<S> {
         Ok(())
     }
 
-    #[tactic(auto, using(crate::proofs::Agreement::unreplaced))]
     // As `insert`: the trait states each with its own refusal, so one text for both would be no shorter.
+    #[tactic(auto, using(crate::proofs::Agreement::unreplaced))]
     fn replace(&mut self, item: Order) -> Result<(), ReplaceRefusal>
         ensures says { Ready S.Store self.old → result ≡ replace_says order_key item (model_of S.Store self.old) }
         ensures leaves { Ready S.Store self.old → model_of S.Store self.new ≡ replacing order_key item (model_of S.Store self.old) }

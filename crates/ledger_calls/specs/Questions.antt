@@ -2,7 +2,7 @@
 use Rattle.std.specs.Prelude.{ℕ, cond, List, [], ◌∷◌, Some, None, codes, Option, ◌==◌, option_map}
 use Rattle.std.specs.Str.{bytes_eq}
 use Rattle.messages.specs.declared.code.Side.{Side}
-use Rattle.words.specs.Words.{words, no_more, lone}
+use Rattle.words.specs.Words.{words, bare, lone}
 use Rattle.keys.specs.Keys.{id_of, symbol_of, side_of}
 use Rattle.ledger_calls.specs.declared.question.Question.{Question}
 use Rattle.ledger_calls.specs.declared.question.Question.TheVariants as question
@@ -18,10 +18,6 @@ verb_meant w =
     (cond (bytes_eq w (codes "book")) (Some Book)
     (cond (bytes_eq w (codes "market")) (Some Market)
     (cond (bytes_eq w (codes "accepted")) (Some Accepted) None))))))
-
--- no word
-abbrev pub bare_of : Question → List (List ℕ) → Option Question
-bare_of q ws = cond (no_more ws) (Some q) None
 
 -- what a word is read as
 abbrev pub read_by : {X : Type 0} → (List ℕ → Option X) → Option (List ℕ) → Option X
@@ -49,8 +45,8 @@ verb_asks (Some Execution) ws = option_map question.Execution (key_of id_of ws)
 verb_asks (Some Row) ws = option_map question.Row (key_of symbol_of ws)
 verb_asks (Some From) ws = option_map question.From (key_of symbol_of ws)
 verb_asks (Some Book) ws = book_of ws
-verb_asks (Some Market) ws = bare_of question.Market ws
-verb_asks (Some Accepted) ws = bare_of question.Accepted ws
+verb_asks (Some Market) ws = bare question.Market ws
+verb_asks (Some Accepted) ws = bare question.Accepted ws
 
 abbrev pub words_ask : List (List ℕ) → Option Question
 words_ask [] = None

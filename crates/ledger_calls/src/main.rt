@@ -13,11 +13,19 @@ mod tests;
 mod verb;
 
 use running::run;
-use std::io;
 use std::io::{BufReader, BufWriter};
+use std::process::ExitCode;
+use words::named::Named;
+use words::program::{Failure, ended, no_words};
 
-fn main(rt: HostRuntime) -> io::Result<()> {
-    let mut input = BufReader::new(rt.alloc(), rt.stdin())?;
-    let mut output = BufWriter::new(rt.alloc(), rt.stdout())?;
-    run(rt.alloc(), &mut input, &mut output)
+fn main(rt: HostRuntime) -> ExitCode {
+    ended(&rt, "ledger_calls", answer(&rt))
+}
+
+fn answer(rt: &HostRuntime) -> Result<(), Failure> {
+    no_words(rt)?;
+    let heap = rt.alloc();
+    let mut input = BufReader::new(heap, Named::new("standard input", heap, rt.stdin()))?;
+    let mut output = BufWriter::new(heap, Named::new("standard output", heap, rt.stdout()))?;
+    Ok(run(heap, &mut input, &mut output)?)
 }

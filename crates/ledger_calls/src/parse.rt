@@ -3,13 +3,13 @@ ghost use Rattle.std.specs.Prelude.{◌≡◌, None, Some, MatchOption};
 ghost use Rattle.words.specs.Words.{words, words_after};
 ghost use Rattle.ledger_calls.specs.Openings.{opening_of, sizes_of};
 ghost use Rattle.keys.specs.Keys.{id_of, symbol_of};
-ghost use Rattle.ledger_calls.specs.Questions.{asked_by, question_of, key_of, book_of, bare_of};
+ghost use Rattle.ledger_calls.specs.Questions.{asked_by, question_of, key_of, book_of};
 
 use crate::opening::Opening;
 use crate::question::Question;
 use crate::verb::{Verb, verb_of};
 use keys::key::{id, side, symbol};
-use words::cut::{after_space, cut, ends, one_word};
+use words::cut::{after_space, alone, cut, one_word};
 use words::number::{first_number, one_number};
 
 // No line opens a ledger over stores of more records.
@@ -85,11 +85,4 @@ fn book(rest: &[u8]) -> Option<Question>
     let symbol = symbol(word)?;
     let side = side(one_word(more)?)?;
     Some(Question::Book(symbol, side))
-}
-
-// The question, if nothing stands after its verb.
-fn alone(question: Question, rest: &[u8]) -> Option<Question>
-    ensures { result ≡ bare_of question (words_after rest.now) }
-{
-    ends(rest).then_some(question)
 }

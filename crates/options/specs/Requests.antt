@@ -1,5 +1,7 @@
 -- What a command line asks for.
 use Rattle.std.specs.Prelude.{ℕ, ◌+◌, true, false, List, [], ◌∷◌, Some, None, Ok, Err, Option, Result}
+use Rattle.words.specs.declared.kind.Kind.TheVariants.{Hashed}
+use Rattle.words.specs.Kinds.{kind_meant}
 use Rattle.words.specs.Numbers.{number_of}
 use Rattle.keys.specs.Keys.{symbol_of}
 use Rattle.options.specs.declared.meaning.Meaning.{Meaning}
@@ -7,7 +9,6 @@ use Rattle.options.specs.declared.meaning.Meaning.TheVariants.{Front, Answers, Q
 use Rattle.options.specs.declared.mistake.Mistake.{Mistake}
 use Rattle.options.specs.declared.mistake.Mistake.TheVariants as mistake
 use Rattle.options.specs.declared.mistake.Wrong.{Wrong}
-use Rattle.options.specs.declared.options.Kind.TheVariants.{Hashed}
 use Rattle.options.specs.declared.options.Options.{Options}
 use Rattle.options.specs.declared.options.Room.{Room}
 use Rattle.options.specs.declared.options.Shown.{Shown}
@@ -16,7 +17,7 @@ use Rattle.options.specs.declared.request.Request.{Request}
 use Rattle.options.specs.declared.request.Reading.{Reading}
 use Rattle.options.specs.declared.setting.Setting.{Setting}
 use Rattle.options.specs.declared.setting.Setting.TheVariants.{Store, Orders, Executions, Symbols, DayLimit, Book}
-use Rattle.options.specs.Words.{word_meant, kind_meant}
+use Rattle.options.specs.Words.{word_meant}
 
 -- where nothing is said: hashed stores with room for 1,048,576 orders, 4,194,304 executions and 16,384 symbols, the greatest day limit, and the report alone
 abbrev pub defaults : Options

@@ -1,10 +1,8 @@
 -- What a word of a command line means by itself.
-use Rattle.std.specs.Prelude.{ℕ, cond, List, [], ◌∷◌, Some, None, codes, Option, ◌==◌}
+use Rattle.std.specs.Prelude.{ℕ, cond, List, [], ◌∷◌, codes, ◌==◌}
 use Rattle.std.specs.Str.{bytes_eq}
 use Rattle.options.specs.declared.meaning.Meaning.{Meaning}
 use Rattle.options.specs.declared.meaning.Meaning.TheVariants.{Front, Answers, Quiet, Help, Sets, Unknown, File}
-use Rattle.options.specs.declared.options.Kind.{Kind}
-use Rattle.options.specs.declared.options.Kind.TheVariants.{Row, Hashed}
 use Rattle.options.specs.declared.setting.Setting.TheVariants.{Store, Orders, Executions, Symbols, DayLimit, Book}
 
 -- the name of an option
@@ -30,6 +28,3 @@ hyphened (x ∷ name) = cond (x == 45) (name_meant name) Unknown
 abbrev pub word_meant : List ℕ → Meaning
 word_meant [] = File
 word_meant (x ∷ word) = cond (x == 45) (hyphened word) File
-
-abbrev pub kind_meant : List ℕ → Option Kind
-kind_meant w = cond (bytes_eq w (codes "row")) (Some Row) (cond (bytes_eq w (codes "hashed")) (Some Hashed) None)

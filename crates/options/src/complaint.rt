@@ -5,11 +5,12 @@ ghost use Rattle.options.specs.Complaints.{setting_word, wanted, complaint_text}
 use crate::mistake::Mistake;
 use crate::setting::Setting;
 use std::fmt;
+use words::quoted::Quoted;
 
 // Of the word where the mistake shows, if there is one there.
 #[derive(Drop)]
 pub struct Complaint<'a> {
-    pub word: &'a str,
+    pub word: &'a [u8],
     pub mistake: Mistake,
 }
 
@@ -17,7 +18,7 @@ impl fmt::Display for Complaint<'_> {
     ghost output = { λ c. Some (complaint_text c.word.now c.mistake) };
 
     fn fmt<W: fmt::Write>(&self, f: &mut fmt::Formatter<W>) -> fmt::Result {
-        let word = self.word;
+        let word = Quoted(self.word);
         match self.mistake {
             Mistake::Unknown => write!(f, "there is no option {word}"),
             Mistake::SecondFile => write!(f, "a second file, {word}"),
@@ -54,7 +55,7 @@ fn wanted(setting: Setting) -> &'static str
 {
     match setting {
         Setting::Store => "row or hashed",
-        Setting::Book => "a symbol of one to eight characters",
+        Setting::Book => "a symbol of one to eight visible ASCII characters",
         _ => "a number below 2^64",
     }
 }

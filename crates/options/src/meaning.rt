@@ -1,8 +1,7 @@
 // What a word means by itself.
 ghost use Rattle.std.specs.Prelude.{◌≡◌};
-ghost use Rattle.options.specs.Words.{name_meant, word_meant, kind_meant};
+ghost use Rattle.options.specs.Words.{name_meant, word_meant};
 
-use crate::options::Kind;
 use crate::setting::Setting;
 
 #[derive(Clone, Copy)]
@@ -44,15 +43,5 @@ fn named(name: &[u8]) -> Meaning
         b"day-limit" => Meaning::Sets(Setting::DayLimit),
         b"book" => Meaning::Sets(Setting::Book),
         _ => Meaning::Unknown,
-    }
-}
-
-pub fn kind(word: &[u8]) -> Option<Kind>
-    ensures { result ≡ kind_meant word.now }
-{
-    match word {
-        b"row" => Some(Kind::Row),
-        b"hashed" => Some(Kind::Hashed),
-        _ => None,
     }
 }

@@ -1,11 +1,6 @@
 // How a day is to be replayed.
 
-// The sort of store that records are kept in.
-#[derive(Clone, Copy, PartialEq, Eq, Debug)]
-pub enum Kind {
-    Row,
-    Hashed,
-}
+pub use words::kind::Kind;
 
 #[derive(Clone, Copy, PartialEq, Eq, Debug)]
 pub struct Stores {

@@ -2,12 +2,13 @@
 ghost use Rattle.std.specs.Prelude.{◌≡◌, map};
 ghost use Rattle.options.specs.Requests.{nothing_read, with_stores, with_shown, with_options, with_limit, set_to, word_read, one_read, read_to_end, request_of};
 
-use crate::meaning::{Meaning, kind, meant};
+use crate::meaning::{Meaning, meant};
 use crate::mistake::{Mistake, Wrong};
 use crate::options::{Kind, Options, Room, Shown, Stores};
 use crate::request::{Reading, Request};
 use crate::setting::Setting;
 use keys::key::symbol;
+use words::kind::kind_of;
 use words::number::number;
 
 // What is asked for where nothing is said.
@@ -163,7 +164,7 @@ fn set(options: Options, setting: Setting, word: &[u8]) -> Result<Options, Mista
     let wrong = Mistake::Value(setting);
     match setting {
         Setting::Store => {
-            let kind = kind(word).ok_or(wrong)?;
+            let kind = kind_of(word).ok_or(wrong)?;
             Ok(Options {
                 stores: Stores {
                     kind,

@@ -1,5 +1,5 @@
 -- How much of an input has passed, how fast, and how that is shown.
-use Rattle.std.specs.Prelude.{ℕ, ◌+◌, ◌-◌, ◌*◌, ◌/◌, ◌%◌, ◌^◌, cond, List, [], ◌∷◌, ◌++◌, length, min, codes, decimal, ◌==◌}
+use Rattle.std.specs.Prelude.{◌≡◌, ◌⊎◌, ◌≤◌, ℕ, ◌+◌, ◌-◌, ◌*◌, ◌/◌, ◌%◌, ◌^◌, cond, List, ◌++◌, length, min, codes, decimal, ◌==◌}
 use Rattle.std.specs.List.{filter}
 use Rattle.progress.specs.declared.pace.Passed.{Passed}
 
@@ -22,3 +22,7 @@ progress_text lines bytes nanos =
     ++ (codes " lines, "
     ++ (decimal (bytes / 1000000)
     ++ (codes "." ++ (decimal (bytes / 100000 % 10) ++ (codes " MB, " ++ (decimal (per_second lines nanos) ++ codes " lines a second"))))))
+
+-- by the clock a second at least has passed since something was told last, or nothing is told
+abbrev pub Paused : {E : Type 0} → (was is : E) (last now : ℕ) → Type 0
+Paused was is last now = ((is ≡ was) × (now ≡ last)) ⊎ (last + 1000000000 ≤ now)

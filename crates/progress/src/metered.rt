@@ -1,6 +1,8 @@
 // A reader that tells how far it is, about every second, somewhere else than where the program writes.
-ghost use Rattle.std.specs.Prelude.{◌≡◌};
-ghost use Rattle.progress.specs.Paces.{ends_among};
+ghost use Rattle.std.specs.Prelude.{◌≡◌, true, None};
+ghost use Rattle.std.specs.Io.{ReadsAtMost};
+ghost use Rattle.std.specs.Io.KnownBytes.{ReadConsumes};
+ghost use Rattle.progress.specs.Paces.{ends_among, Paused};
 
 use crate::form::ProgressForm;
 use crate::pace::Passed;
@@ -26,7 +28,10 @@ pub struct Metered<R, C, E> {
 impl<R: Read, C: Clock, E: Write> Metered<R, C, E> {
     // Starts now; if quiet, nothing is ever told.
     pub fn new(inner: R, clock: C, told: E, quiet: bool) -> Metered<R, C, E>
-        ensures { result.inner ≡ inner }
+        ensures inner { result.inner ≡ inner }
+        ensures told { result.told ≡ told }
+        ensures begins { (result.passed ≡ record { lines = 0; bytes = 0 }) × (result.last ≡ 0) }
+        ensures quiet { quiet ≡ true → result.start ≡ None }
     {
         let start = if quiet {
             None
@@ -43,8 +48,11 @@ impl<R: Read, C: Clock, E: Write> Metered<R, C, E> {
         }
     }
 
+    // Tells how far it is with these bytes, if a second has passed since something was told last.
     fn tell(&mut self, bytes: &[u8])
-        ensures { self.new.inner ≡ self.old.inner }
+        ensures inner { self.new.inner ≡ self.old.inner }
+        ensures pause { Paused self.old.told self.new.told self.old.last self.new.last }
+        ensures quiet { self.old.start ≡ None → self.new ≡ self.old }
     {
         let Some(start) = self.start else {
             return;
@@ -66,7 +74,12 @@ impl<R: Read, C: Clock, E: Write> Metered<R, C, E> {
 impl<R: Read, C: Clock, E: Write> Read for Metered<R, C, E> {
     ghost remaining = { λ m. R.remaining m.inner };
 
-    fn read(&mut self, buf: &mut [u8]) -> io::Result<usize> {
+    fn read(&mut self, buf: &mut [u8]) -> io::Result<usize>
+        ensures bound { ReadsAtMost result buf.new }
+        ensures bytes { ReadConsumes (R.remaining self.old.inner) (R.remaining self.new.inner) result buf.new }
+        ensures pause { Paused self.old.told self.new.told self.old.last self.new.last }
+        ensures quiet { self.old.start ≡ None → (self.new.told ≡ self.old.told) × (self.new.start ≡ None) }
+    {
         let count = self.inner.read(buf)?;
         self.tell(&buf[..count]);
         Ok(count)

@@ -2,14 +2,17 @@
 use options::complaint::Complaint;
 use std::fmt;
 use std::io::{Error, ErrorKind};
+use words::quoted::Quoted;
 
 #[derive(Drop)]
 pub enum Failure<'a> {
     // The command line is wrong.
     Command(Complaint<'a>),
-    // The input of this name cannot be read.
-    Input(&'a str, Error),
-    // Something else fails: the memory, or the output.
+    // No file can be opened by such a name.
+    Name(&'a [u8]),
+    // The file of this name cannot be read.
+    File(&'a [u8], Error),
+    // Something else fails: the memory, or standard input or output, whose errors bear their names.
     Other(Error),
 }
 
@@ -23,7 +26,14 @@ impl fmt::Display for Failure<'_> {
     fn fmt<W: fmt::Write>(&self, f: &mut fmt::Formatter<W>) -> fmt::Result {
         match self {
             Failure::Command(complaint) => write!(f, "{complaint} (--help shows the usage)"),
-            Failure::Input(name, error) => write!(f, "{name}: {error}"),
+            Failure::Name(name) => {
+                write!(
+                    f,
+                    "a file's name has to be UTF-8, and {} is not",
+                    Quoted(*name)
+                )
+            }
+            Failure::File(name, error) => write!(f, "{}: {error}", Quoted(*name)),
             Failure::Other(error) if error.kind() == ErrorKind::OutOfMemory => {
                 f.write_str("there is no memory for so many records")
             }

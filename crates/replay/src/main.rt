@@ -1,17 +1,17 @@
 // Replays a day of the feed's lines, from a file or standard input, and prints its report; progress goes to standard error.
 #![tactic(auto)]
 
-mod arguments;
 mod failure;
 mod running;
 
 use running::run;
 use std::process::ExitCode;
+use words::arguments::arguments;
+use words::program::ended;
 
 fn main(rt: HostRuntime) -> ExitCode {
-    if run(&rt) {
-        ExitCode::SUCCESS
-    } else {
-        ExitCode::FAILURE
+    match arguments(&rt) {
+        Ok(words) => ended(&rt, "replay", run(&rt, words.as_slice())),
+        Err(error) => ended(&rt, "replay", Err(error)),
     }
 }

@@ -1,7 +1,7 @@
 // The command lines.
 
 // Their words are parted by one space.
-pub const COMMANDS: [&str; 19] = [
+pub const COMMANDS: [&str; 20] = [
     "--store row --answers --book ABCD --orders 64 --executions 64 --symbols 16",
     "--store hashed --answers --book ABCD --orders 64 --executions 64 --symbols 16",
     "--store row --front --answers --book ABCD --orders 64 --executions 64 --symbols 16",
@@ -18,6 +18,7 @@ pub const COMMANDS: [&str; 19] = [
     "--symbols -1",
     "--day-limit",
     "--book TOOLONGSYM",
+    "--book \u{e9}",
     "--books ABCD",
     "-q",
     "one two",

@@ -7,13 +7,21 @@ mod running;
 mod tests;
 
 use running::run;
-use std::io;
-use std::io::{BufReader, BufWriter, Read};
+use std::io::{BufWriter, Read};
+use std::process::ExitCode;
+use words::named::Named;
+use words::program::{Failure, ended, no_words};
 
-fn main(rt: HostRuntime) -> io::Result<()> {
-    let mut input = BufReader::new(rt.alloc(), rt.stdin())?;
-    let mut day = Vec::new(rt.alloc());
+fn main(rt: HostRuntime) -> ExitCode {
+    ended(&rt, "replay_cases", replay_all(&rt))
+}
+
+fn replay_all(rt: &HostRuntime) -> Result<(), Failure> {
+    no_words(rt)?;
+    let heap = rt.alloc();
+    let mut input = Named::new("standard input", heap, rt.stdin());
+    let mut day = Vec::new(heap);
     input.read_to_end(&mut day)?;
-    let mut output = BufWriter::new(rt.alloc(), rt.stdout())?;
-    run(rt.alloc(), day.as_slice(), &mut output)
+    let mut output = BufWriter::new(heap, Named::new("standard output", heap, rt.stdout()))?;
+    Ok(run(heap, day.as_slice(), &mut output)?)
 }

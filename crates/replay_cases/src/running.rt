@@ -50,7 +50,7 @@ fn follow<W: Write>(heap: Global, request: &Request, day: &[u8], output: &mut W)
 fn complain<W: Write>(command: &str, wrong: Wrong, output: &mut W) -> io::Result<()> {
     let word = command.split(' ').nth(wrong.place).unwrap_or("");
     let complaint = Complaint {
-        word,
+        word: word.as_bytes(),
         mistake: wrong.mistake,
     };
     writeln!(output, "(wrong: {complaint})")

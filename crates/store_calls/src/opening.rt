@@ -5,7 +5,7 @@ ghost use Rattle.store.specs.Models.{emptied};
 use crate::serving::serve;
 use crate::session::Session;
 use calls::answer::answer;
-use calls::call::{Kind, Opening};
+use calls::call::Opening;
 use calls::fronted::Fronted;
 use calls::reply::Reply;
 use front_row::open::opened;
@@ -15,6 +15,7 @@ use row_store::row::RowStore;
 use std::io;
 use std::io::{BufRead, Write};
 use store::store::Store;
+use words::kind::Kind;
 
 // Opens the store, and answers lines from it until one opens another: that one, or none at the end of the input.
 pub fn open<R: BufRead, W: Write>(

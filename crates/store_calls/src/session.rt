@@ -6,6 +6,7 @@ use calls::call::Request;
 use calls::parse::parse;
 use calls::reply::{Numbered, Reply};
 use capture::buffer::LineBuffer;
+use capture::count::LineCount;
 use capture::input::next_line;
 use std::alloc::Global;
 use std::io;
@@ -16,19 +17,18 @@ pub struct Session<'a, R, W> {
     pub heap: Global,
     input: &'a mut R,
     output: &'a mut W,
-    // stops at the most that it holds; no input has so many lines
-    answered: u64,
+    answered: LineCount,
 }
 
 impl<'a, R: BufRead, W: Write> Session<'a, R, W> {
     pub fn new(heap: Global, input: &'a mut R, output: &'a mut W) -> Session<'a, R, W>
-        ensures { result.answered ≡ 0 }
+        ensures { result.answered.lines ≡ 0 }
     {
         Session {
             heap,
             input,
             output,
-            answered: 0,
+            answered: LineCount::new(),
         }
     }
 
@@ -51,11 +51,10 @@ impl<'a, R: BufRead, W: Write> Session<'a, R, W> {
 
     // Writes the answer to the next line, and holds nothing back.
     pub fn reply(&mut self, reply: Reply) -> io::Result<()>
-        ensures { self.new.answered ≡ more self.old.answered }
+        ensures { self.new.answered.lines ≡ more self.old.answered.lines }
     {
-        self.answered = self.answered.saturating_add(1);
         let numbered = Numbered {
-            number: self.answered,
+            number: self.answered.next(),
             reply,
         };
         writeln!(self.output, "{numbered}")?;

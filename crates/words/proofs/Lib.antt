@@ -1,3 +1,4 @@
 mod Cutting
 mod Decimals
 mod Lone
+mod Quoting

@@ -1,2 +1,5 @@
+pub mod Failures
+pub mod Kinds
 pub mod Numbers
+pub mod Quotes
 pub mod Words

@@ -21,6 +21,10 @@ abbrev pub no_more : List (List ℕ) → Bool
 no_more [] = true
 no_more (w ∷ ws) = false
 
+-- x, if there is no word
+abbrev pub bare : {X : Type 0} → X → List (List ℕ) → Option X
+bare x ws = cond (no_more ws) (Some x) None
+
 -- the word that stands alone
 abbrev pub lone : List (List ℕ) → Option (List ℕ)
 lone [] = None

@@ -1,6 +1,6 @@
 // The words of a line: what stands between its spaces.
 ghost use Rattle.std.specs.Prelude.{◌≡◌, Some, None, ℕ, ◌<◌, ◌≤◌, [], ◌∷◌, length, MatchOption, ◌≢◌, slice_index};
-ghost use Rattle.words.specs.Words.{words, words_after, no_more, lone};
+ghost use Rattle.words.specs.Words.{words, words_after, no_more, bare, lone};
 
 // The first word, and what stands after it with the space before that.
 pub fn cut(bytes: &[u8]) -> (&[u8], &[u8])
@@ -33,6 +33,13 @@ pub fn ends(rest: &[u8]) -> bool
     ensures { result ≡ no_more (words_after rest.now) }
 {
     lacks_space(rest)
+}
+
+// What is meant, if no word stands there.
+pub fn alone<T: Copy>(meant: T, rest: &[u8]) -> Option<T>
+    ensures { result ≡ bare meant (words_after rest.now) }
+{
+    ends(rest).then_some(meant)
 }
 
 fn lacks_space(rest: &[u8]) -> bool

@@ -1,6 +1,6 @@
 use Rattle.std.proofs.Common.{codes, refl, rules, arith}
 use Rattle.std.proofs.lemmas.Slice.Eq.{text_from_reads}
-use Rattle.options.proofs.meaning.kind.Goals as goal
+use Rattle.words.proofs.kind.kind_of.Goals as goal
 
 pub returns-in-row : goal.returns-in-row
 returns-in-row c = rw (text_from_reads c.args.word.now (codes "row") (omega arith) (search rules)) refl

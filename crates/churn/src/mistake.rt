@@ -1,0 +1,62 @@
+// What is wrong with the words, and why else nothing is run, or no more.
+use std::fmt;
+use std::io::Error;
+use words::quoted::Quoted;
+
+#[derive(Clone, Copy, Drop, PartialEq, Eq, Debug)]
+pub enum Mistake<'a> {
+    // too few words, or too many
+    Count,
+    Store(&'a [u8]),
+    Load(&'a [u8]),
+    Size(&'a [u8]),
+    Last(&'a [u8]),
+}
+
+impl fmt::Display for Mistake<'_> {
+    fn fmt<W: fmt::Write>(&self, f: &mut fmt::Formatter<W>) -> fmt::Result {
+        match *self {
+            Mistake::Count => f.write_str("the words are STORE LOAD SLOTS LIVE PAIRS [time]"),
+            Mistake::Store(word) => write!(
+                f,
+                "a store is row, hashed, front-row, front-hashed or all, not {}",
+                Quoted(word)
+            ),
+            Mistake::Load(word) => write!(
+                f,
+                "a load is gaps, queue, rising, scattered or all, not {}",
+                Quoted(word)
+            ),
+            Mistake::Size(word) => write!(f, "a size is a number below 2^64, not {}", Quoted(word)),
+            Mistake::Last(word) => write!(f, "the last word is time or none, not {}", Quoted(word)),
+        }
+    }
+}
+
+#[derive(Drop)]
+pub enum Failure<'a> {
+    Words(Mistake<'a>),
+    // the memory or the output
+    Other(Error),
+}
+
+impl<'a> From<Mistake<'a>> for Failure<'a> {
+    fn from(mistake: Mistake<'a>) -> Failure<'a> {
+        Failure::Words(mistake)
+    }
+}
+
+impl<'a> From<Error> for Failure<'a> {
+    fn from(error: Error) -> Failure<'a> {
+        Failure::Other(error)
+    }
+}
+
+impl fmt::Display for Failure<'_> {
+    fn fmt<W: fmt::Write>(&self, f: &mut fmt::Formatter<W>) -> fmt::Result {
+        match self {
+            Failure::Words(mistake) => write!(f, "{mistake}"),
+            Failure::Other(error) => write!(f, "{error}"),
+        }
+    }
+}

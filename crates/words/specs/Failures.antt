@@ -1,0 +1,10 @@
+-- Why a program that takes no words fails.
+use Rattle.std.specs.Prelude.{ℕ, List, ◌++◌, Some, None, codes, Option}
+use Rattle.words.specs.declared.program.Failure.{Failure}
+use Rattle.words.specs.declared.program.Failure.TheVariants.{Word, Other}
+use Rattle.words.specs.Quotes.{quoted_text}
+
+-- of another error, its own text
+abbrev pub failure_text : Failure → Option (List ℕ)
+failure_text (Word w) = Some (codes "it takes no words, and " ++ (quoted_text w.items ++ codes " was given"))
+failure_text (Other e) = None

@@ -1,0 +1,21 @@
+// The kinds of stores, and the words that name them.
+ghost use Rattle.std.specs.Prelude.{◌≡◌};
+ghost use Rattle.words.specs.Kinds.{kind_meant};
+
+// What the records of a store stand in.
+#[derive(Clone, Copy, PartialEq, Eq, Debug)]
+pub enum Kind {
+    Row,
+    Hashed,
+}
+
+// No `TryFrom`: a word that names no kind has no more to say.
+pub fn kind_of(word: &[u8]) -> Option<Kind>
+    ensures { result ≡ kind_meant word.now }
+{
+    match word {
+        b"row" => Some(Kind::Row),
+        b"hashed" => Some(Kind::Hashed),
+        _ => None,
+    }
+}
