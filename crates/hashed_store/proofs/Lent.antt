@@ -1,17 +1,14 @@
 -- The slots that lent memory makes, read and written.
 use Rattle.std.proofs.Common.{◌≡◌, ℕ, zero, suc, ◌<◌, inl, inr, ⊎_elim, eqb, true, false, List, [], ◌∷◌, length, set, replicate, min, refl, ap, ◌∙◌, arith, Some, None, Option, get_or}
-use Rattle.std.proofs.lemmas.Bool.{eq-eqb, ne_eqb}
+use Rattle.std.proofs.lemmas.Bool.{eq-eqb}
 use Rattle.std.proofs.lemmas.List.{length-replicate}
-use Rattle.hashed_store.specs.Lent.{tag_of, slots_of, Tagged}
+use Rattle.hashed_store.specs.Lent.{slots_of, Tagged}
+use Rattle.hashed_store.specs.Mixing.{tag_of}
 use Rattle.hashed_store.specs.Slots.{slot_at, Other}
+use Rattle.hashed_store.proofs.Homes.{tag_used}
 
 pub length_blank : (X : Type 0) (n : ℕ) → length {A = Option X} (replicate n None) ≡ n
 length_blank X n = length-replicate n None
-
--- no key's tag is an empty slot's
-pub tag-used : (k : ℕ) → eqb (tag_of k) 0 ≡ false
-unfolding tag_of
-tag-used k = ne_eqb _ 0 (λ e. absurd (omega arith))
 
 module _ {X : Type 0} where
   pub length_slots : (ts : List ℕ) (rs : List X) → length (slots_of ts rs) ≡ min (length ts) (length rs)
@@ -41,7 +38,7 @@ module _ {X : Type 0} where
   filled_slots [] rs i k r = refl
   filled_slots (u ∷ ts) [] zero k r = refl
   filled_slots (u ∷ ts) [] (suc i) k r = refl
-  filled_slots (u ∷ ts) (x ∷ rs) zero k r = rw (tag-used k) refl
+  filled_slots (u ∷ ts) (x ∷ rs) zero k r = rw (tag_used k) refl
   filled_slots (u ∷ ts) (x ∷ rs) (suc i) k r = ap (λ ss. slot_at (slots_of (u ∷ []) (x ∷ [])) 0 ∷ ss) (filled_slots ts rs i k r)
 
   pub emptied_slots : (ts : List ℕ) (rs : List X) (i : ℕ) → slots_of (set ts i 0) rs ≡ set (slots_of ts rs) i None

@@ -1,4 +1,4 @@
-pub mod Powers
+pub mod Homes
 pub mod Rounds
 pub mod Lent
 pub mod Held

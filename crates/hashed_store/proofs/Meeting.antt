@@ -1,9 +1,11 @@
 -- Every record stays where a search from its home meets it, whatever is put in, taken out or moved into a hole.
-use Rattle.std.proofs.Common.{◌≡◌, ℕ, ◌+◌, ◌-◌, ◌<◌, ◌≤◌, ◌≢◌, ◌⊎◌, List, length, set, sym, ap, ◌∙◌, subst, ⊎_elim, mod-lt, arith, rules, length-set, get_or-set_other, get_or-set_same, Some, None, Option}
+use Rattle.std.proofs.Common.{◌≡◌, ℕ, ◌+◌, ◌-◌, ◌<◌, ◌≤◌, ◌≢◌, ◌⊎◌, List, length, set, sym, ap, ◌∙◌, subst, ⊎_elim, arith, rules, length-set, get_or-set_other, get_or-set_same, Some, None, Option}
 use Rattle.std.proofs.lemmas.Bool.{cases_eq, cases_lt}
 use Rattle.store.proofs.Each.{Absent}
 use Rattle.hashed_store.specs.Rounds.{around, offset}
-use Rattle.hashed_store.specs.Slots.{held, slot_at, home_of, strayed, Met, AllMet, NoHole, HoleAt, Passed, NotOver, Short}
+use Rattle.hashed_store.specs.Mixing.{home_of}
+use Rattle.hashed_store.proofs.Homes.{home_in}
+use Rattle.hashed_store.specs.Slots.{held, slot_at, strayed, Met, AllMet, NoHole, HoleAt, Passed, NotOver, Short}
 use Rattle.hashed_store.proofs.Rounds.{around-below, offset-below, around-offset, offset-around, offset-rest, offset-back, around-on, offset-other, offset-self}
 use Rattle.hashed_store.proofs.Held.{each-held}
 
@@ -31,7 +33,7 @@ module _ {X : Type 0} where
 
 module _ {X : Type 0} (key : X → ℕ) (n : ℕ) (some : 0 < n) where
   pub home_below : (k : ℕ) → home_of n k < n
-  home_below k = mod-lt k some
+  home_below k = home_in n k some
 
   -- filling an empty slot, the t-th of the way of its record
   pub met-in : (ss : List (Option X)) (reach farther : ℕ) (i t : ℕ) (r : X)

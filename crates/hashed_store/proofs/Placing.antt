@@ -10,7 +10,8 @@ use Rattle.store.proofs.Keyed.{lookup_absent, holds-absent, replaced-absent, wit
 use Rattle.store.proofs.Placed.{lookup-placed, without-placed, replaced-placed}
 use Rattle.store.proofs.Sorting.{each-sorted, rising-sorted, length-sorted}
 use Rattle.hashed_store.specs.Rounds.{around}
-use Rattle.hashed_store.specs.Slots.{held, slot_at, home_of, Passed, Other}
+use Rattle.hashed_store.specs.Mixing.{home_of}
+use Rattle.hashed_store.specs.Slots.{held, slot_at, Passed, Other}
 use Rattle.hashed_store.specs.Ways.{WentHere, WentToGap}
 use Rattle.hashed_store.specs.Holes.{Kept, Holed, Filled}
 use Rattle.hashed_store.specs.Places.{rows_of, model_of, span_of, PutIn, NotPut, Exchanged, Out, NoKey, Removed, Cleared}

@@ -1,7 +1,9 @@
 -- How far all records have strayed together: a record that moves back into a hole makes it less, so that moving ends.
-use Rattle.std.proofs.Common.{◌≡◌, ℕ, zero, suc, ◌+◌, ◌<◌, ◌≤◌, List, [], ◌∷◌, length, set, add-zero, add-suc, mod-lt, suc-add, zero-add, arith, length-set, Some, None, Option}
+use Rattle.std.proofs.Common.{◌≡◌, ℕ, zero, suc, ◌+◌, ◌<◌, ◌≤◌, List, [], ◌∷◌, length, set, add-zero, add-suc, suc-add, zero-add, arith, length-set, Some, None, Option}
 use Rattle.hashed_store.specs.Rounds.{offset}
-use Rattle.hashed_store.specs.Slots.{slot_at, home_of, strayed}
+use Rattle.hashed_store.specs.Mixing.{home_of}
+use Rattle.hashed_store.proofs.Homes.{home_in}
+use Rattle.hashed_store.specs.Slots.{slot_at, strayed}
 use Rattle.hashed_store.proofs.Rounds.{offset-back, offset-other}
 
 module _ {X : Type 0} (key : X → ℕ) (n : ℕ) where
@@ -28,7 +30,7 @@ module _ {X : Type 0} (key : X → ℕ) (n : ℕ) where
   unfolding strayed_in
   spread-falls ss h j r size lh lj apart from over =
       let some : 0 < n = omega arith in
-      let home = mod-lt (key r) some in
+      let home = home_in n (key r) some in
       let less = offset-back n (home_of n (key r)) h j home lh lj over in
       let pos = offset-other n h j lh lj apart in
       let sj : j < length ss = rw size lj in

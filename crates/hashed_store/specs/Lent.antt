@@ -1,9 +1,6 @@
 -- The slots that lent memory makes: a row each, and a tag, which is 0 where the slot is empty.
-use Rattle.std.specs.Prelude.{◌≡◌, ℕ, ◌+◌, ◌*◌, ◌/◌, ◌%◌, ◌^◌, ◌⊎◌, cond, List, [], ◌∷◌, Some, None, Option, nat_eq}
-
--- The tag of a key is some of its bits, mixed, and is never 0: rows with different tags have different keys.
-unfoldable pub tag_of : ℕ → ℕ
-tag_of k = 128 + k * 11400714819323198485 % 2 ^ 64 / 2 ^ 57
+use Rattle.std.specs.Prelude.{◌≡◌, ℕ, ◌⊎◌, cond, List, [], ◌∷◌, Some, None, Option, nat_eq}
+use Rattle.hashed_store.specs.Mixing.{tag_of}
 
 -- a row each, where it is in use
 abbrev pub slots_of : {X : Type 0} → List ℕ → List X → List (Option X)

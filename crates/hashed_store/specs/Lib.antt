@@ -1,3 +1,4 @@
+pub mod Mixing
 pub mod Rounds
 pub mod Slots
 pub mod Lent

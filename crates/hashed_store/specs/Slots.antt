@@ -1,6 +1,7 @@
 -- What the slots of a hashed store hold, and how they are kept.
-use Rattle.std.specs.Prelude.{◌≡◌, ℕ, ◌%◌, ◌<◌, ◌≤◌, cond, List, [], ◌∷◌, ◌++◌, Some, None, Option, IsSomeAnd, ◌≢◌, nat_lt, slice_index_or}
+use Rattle.std.specs.Prelude.{◌≡◌, ℕ, ◌<◌, ◌≤◌, cond, List, [], ◌∷◌, ◌++◌, Some, None, Option, IsSomeAnd, ◌≢◌, nat_lt, slice_index_or}
 use Rattle.std.specs.Option.{option_to_list}
+use Rattle.hashed_store.specs.Mixing.{home_of}
 use Rattle.hashed_store.specs.Rounds.{around, offset}
 
 -- what all slots hold, from the first to the last
@@ -21,10 +22,6 @@ nearest key k (Some r) best = nearer key k r best
 -- the slot at a place
 abbrev pub slot_at : {X : Type 0} → List (Option X) → ℕ → Option X
 slot_at ss i = slice_index_or ss i None
-
--- where the search for a key starts, of n slots
-abbrev pub home_of : ℕ → ℕ → ℕ
-home_of n k = k % n
 
 -- how far a record at the place i has gone from its home
 abbrev pub strayed : {X : Type 0} → (X → ℕ) → ℕ → ℕ → X → ℕ

@@ -4,7 +4,8 @@ use Rattle.store.specs.Lists.{Each}
 use Rattle.hashed_store.specs.declared.way.Ending.{Ending}
 use Rattle.hashed_store.specs.declared.way.Ending.TheVariants.{Here, Gap, Past}
 use Rattle.hashed_store.specs.Rounds.{around}
-use Rattle.hashed_store.specs.Slots.{held, slot_at, home_of, Passed}
+use Rattle.hashed_store.specs.Mixing.{home_of}
+use Rattle.hashed_store.specs.Slots.{held, slot_at, Passed}
 use Rattle.hashed_store.specs.Holes.{Kept}
 use Rattle.hashed_store.specs.Looks.{HasKey}
 

@@ -4,8 +4,9 @@ ghost use Rattle.std.specs.Prelude.{◌≡◌, ◌<◌, length, None, slice_set}
 ghost use Rattle.hashed_store.specs.Holes.{Behind, Closed};
 ghost use Rattle.hashed_store.specs.Slots.{slot_at};
 
+use crate::mixing::home;
 use crate::place::span;
-use crate::round::{home, next, steps};
+use crate::round::{next, steps};
 use crate::slots::Slots;
 use store::record::Record;
 

@@ -5,6 +5,7 @@ mod close;
 pub mod hashed;
 mod least;
 pub mod meaning;
+mod mixing;
 mod place;
 mod round;
 mod slots;

@@ -1,10 +1,12 @@
 // The slots: a row each, and beside them, in a slice of its own, a tag, which is 0 where the slot is empty and else tells most keys from that of the row.
 // The tags of many slots share a line of the cache, so a search seldom looks at a row that it does not want.
 ghost use Rattle.std.specs.Prelude.{◌≡◌, ◌<◌, length, min, Some, None, replicate, slice_set};
-ghost use Rattle.hashed_store.specs.Lent.{slots_of, tag_of, Tagged};
+ghost use Rattle.hashed_store.specs.Lent.{slots_of, Tagged};
 ghost use Rattle.hashed_store.specs.Looks.{Looked};
+ghost use Rattle.hashed_store.specs.Mixing.{tag_of};
 ghost use Rattle.hashed_store.specs.Slots.{slot_at};
 
+use crate::mixing::tag;
 use std::marker::Model;
 use store::record::Record;
 
@@ -33,14 +35,6 @@ pub(crate) enum Look {
     Wanted,
     // It holds one of another key.
     Other,
-}
-
-// A part of a hash of the key.
-#[tactic(auto, unfolding(crate::specs::Lent::tag_of))]
-pub(crate) fn tag(key: u64) -> u8
-    ensures { result ≡ tag_of key }
-{
-    128 + (key.wrapping_mul(11_400_714_819_323_198_485) >> 57) as u8
 }
 
 impl<'a, R: Record> Slots<'a, R> {

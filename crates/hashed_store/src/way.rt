@@ -2,8 +2,9 @@
 ghost use Rattle.std.specs.Prelude.{◌≤◌, length};
 ghost use Rattle.hashed_store.specs.Ways.{Went};
 
-use crate::round::{home, next};
-use crate::slots::{Look, Slots, tag};
+use crate::mixing::{home, tag};
+use crate::round::next;
+use crate::slots::{Look, Slots};
 use store::record::Record;
 
 #[derive(Clone, Copy)]

@@ -1,6 +1,7 @@
 use Rattle.std.proofs.Common.{◌≡◌, ◌<◌}
 use Rattle.hashed_store.specs.Rounds.{around}
-use Rattle.hashed_store.specs.Slots.{home_of, Passed}
+use Rattle.hashed_store.specs.Mixing.{home_of}
+use Rattle.hashed_store.specs.Slots.{Passed}
 use Rattle.hashed_store.proofs.way.way.Given as goal
 
 abbrev pub invariant-loop-taken : goal.invariant-loop-taken
