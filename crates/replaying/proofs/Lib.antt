@@ -1,2 +1,1 @@
 mod Reporting
-mod Spreading

@@ -1,2 +1,2 @@
-pub mod Spreads
+pub mod Slots
 pub mod Texts

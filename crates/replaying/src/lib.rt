@@ -3,4 +3,4 @@
 
 pub mod replay;
 mod report;
-pub mod spread;
+pub mod slots;

@@ -5,7 +5,7 @@ ghost use Rattle.day_rules.specs.Days.{opening};
 ghost use Rattle.replaying.specs.Texts.{printed, room_printed, replay_text};
 
 use crate::report::report;
-use crate::spread::spread;
+use crate::slots::slots;
 use capped::capped::Capped;
 use front_row::front_row::FrontRow;
 use hashed_store::hashed::HashedStore;
@@ -73,16 +73,17 @@ fn over_slots<R: BufRead, W: Write>(
     ensures { OnOk result (IfSome (R.remaining input.old) (λ bytes. Appends (W.contents output.old) (W.contents output.new) (room_printed (length places.old) options.now bytes))) }
 {
     let room = &options.room;
-    let slots = spread(room.symbols);
-    let mut orders = vec![in heap; Order::BLANK; room.orders as usize]?;
-    let mut executions = vec![in heap; Execution::BLANK; room.executions as usize]?;
-    let mut symbols = vec![in heap; SymbolRow::BLANK; slots as usize]?;
-    let mut order_tags = vec![in heap; 0u8; room.orders as usize]?;
-    let mut execution_tags = vec![in heap; 0u8; room.executions as usize]?;
-    let mut symbol_tags = vec![in heap; 0u8; slots as usize]?;
+    let mut order_tags = vec![in heap; 0u8; slots(room.orders) as usize]?;
+    let mut execution_tags = vec![in heap; 0u8; slots(room.executions) as usize]?;
+    let mut symbol_tags = vec![in heap; 0u8; slots(room.symbols) as usize]?;
+    let mut orders = vec![in heap; Order::BLANK; slots(room.orders) as usize]?;
+    let mut executions = vec![in heap; Execution::BLANK; slots(room.executions) as usize]?;
+    let mut symbols = vec![in heap; SymbolRow::BLANK; slots(room.symbols) as usize]?;
     let orders = HashedStore::new(order_tags.as_mut_slice(), orders.as_mut_slice());
     let executions = HashedStore::new(execution_tags.as_mut_slice(), executions.as_mut_slice());
     let symbols = HashedStore::new(symbol_tags.as_mut_slice(), symbols.as_mut_slice());
+    let orders = Capped::new(orders, room.orders);
+    let executions = Capped::new(executions, room.executions);
     let symbols = Capped::new(symbols, room.symbols);
     over(
         options,

@@ -1,0 +1,7 @@
+-- The slots for so many hashed records.
+use Rattle.std.specs.Prelude.{ℕ, ◌+◌, ◌/◌}
+use Rattle.day_lines.specs.Seen.{at_most}
+
+-- a third more
+abbrev pub slots_for : ℕ → ℕ
+slots_for room = at_most (room + room / 3)
