@@ -1,6 +1,8 @@
 // A reader that tells how far it is, about every second, somewhere else than where the program writes.
-ghost use Rattle.std.specs.Prelude.{◌≡◌};
-ghost use Rattle.progress.specs.Paces.{ends_among};
+ghost use Rattle.std.specs.Prelude.{◌≡◌, true, None, take, IfOk, OnOk};
+ghost use Rattle.std.specs.Io.{ReadsAtMost};
+ghost use Rattle.std.specs.Io.KnownBytes.{Appends, ReadConsumes};
+ghost use Rattle.progress.specs.Paces.{ends_among, passed_since, last_told, told_line};
 
 use crate::form::ProgressForm;
 use crate::pace::Passed;
@@ -26,7 +28,11 @@ pub struct Metered<R, C, E> {
 impl<R: Read, C: Clock, E: Write> Metered<R, C, E> {
     // Starts now; if quiet, nothing is ever told.
     pub fn new(inner: R, clock: C, told: E, quiet: bool) -> Metered<R, C, E>
-        ensures { result.inner ≡ inner }
+        ensures inner { result.inner ≡ inner }
+        ensures told { result.told ≡ told }
+        ensures none { result.passed ≡ record { lines = 0; bytes = 0 } }
+        ensures quiet { quiet ≡ true → result.start ≡ None }
+        ensures last { result.last ≡ 0 }
     {
         let start = if quiet {
             None
@@ -43,8 +49,12 @@ impl<R: Read, C: Clock, E: Write> Metered<R, C, E> {
         }
     }
 
-    fn tell(&mut self, bytes: &[u8])
-        ensures { self.new.inner ≡ self.old.inner }
+    // Counts what was read, and tells of it if a word is due.
+    fn pass(&mut self, bytes: &[u8])
+        ensures inner { self.new.inner ≡ self.old.inner }
+        ensures start { self.new.start ≡ self.old.start }
+        ensures passed { self.new.passed ≡ passed_since self.old.start bytes.now self.old.passed }
+        ensures quiet { self.old.start ≡ None → self.new ≡ self.old }
     {
         let Some(start) = self.start else {
             return;
@@ -54,21 +64,37 @@ impl<R: Read, C: Clock, E: Write> Metered<R, C, E> {
             return;
         };
         let nanos = elapsed.as_nanos().min(u128::from(u64::MAX)) as u64;
+        let _ = self.tell(nanos);
+    }
+
+    // Tells what has passed by a time, if a word is due.
+    fn tell(&mut self, nanos: u64) -> io::Result<()>
+        ensures says { OnOk result (Appends (E.contents self.old.told) (E.contents self.new.told) (told_line self.old.last nanos self.old.passed)) }
+        ensures last { self.new.last ≡ last_told self.old.last nanos }
+        ensures inner { self.new.inner ≡ self.old.inner }
+        ensures start { self.new.start ≡ self.old.start }
+        ensures passed { self.new.passed ≡ self.old.passed }
+    {
         if nanos.saturating_sub(self.last) < PAUSE {
-            return;
+            return Ok(());
         }
         self.last = nanos;
         let passed = self.passed;
-        let _ = writeln!(self.told, "{}", ProgressForm { passed, nanos });
+        writeln!(self.told, "{}", ProgressForm { passed, nanos })
     }
 }
 
 impl<R: Read, C: Clock, E: Write> Read for Metered<R, C, E> {
     ghost remaining = { λ m. R.remaining m.inner };
 
-    fn read(&mut self, buf: &mut [u8]) -> io::Result<usize> {
+    fn read(&mut self, buf: &mut [u8]) -> io::Result<usize>
+        ensures bound { ReadsAtMost result buf.new }
+        ensures bytes { ReadConsumes (R.remaining self.old.inner) (R.remaining self.new.inner) result buf.new }
+        ensures passed { IfOk result (λ count. self.new.passed ≡ passed_since self.old.start (take count buf.new) self.old.passed) }
+        ensures start { self.new.start ≡ self.old.start }
+    {
         let count = self.inner.read(buf)?;
-        self.tell(&buf[..count]);
+        self.pass(&buf[..count]);
         Ok(count)
     }
 }
