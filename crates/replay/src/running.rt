@@ -1,4 +1,7 @@
 // From the command line to the report.
+ghost use Rattle.std.specs.Prelude.{◌≡◌, is_ok};
+ghost use Rattle.replay.specs.Failures.{Complains, word_at};
+
 use crate::arguments::{bytes_of, words};
 use crate::failure::Failure;
 use options::complaint::Complaint;
@@ -23,7 +26,9 @@ pub fn run(rt: &HostRuntime) -> bool {
     }
 }
 
-fn succeeds(rt: &HostRuntime, outcome: Result<(), Failure<'_>>) -> bool {
+fn succeeds(rt: &HostRuntime, outcome: Result<(), Failure<'_>>) -> bool
+    ensures { result ≡ is_ok outcome.entry }
+{
     match outcome {
         Ok(()) => true,
         Err(failure) => {
@@ -53,7 +58,9 @@ fn asked<'a>(rt: &HostRuntime, words: &'a [String]) -> Result<(), Failure<'a>> {
 }
 
 // What is wrong, at the word where it shows.
-fn told<'a>(words: &'a [String], wrong: Wrong) -> Failure<'a> {
+fn told<'a>(words: &'a [String], wrong: Wrong) -> Failure<'a>
+    ensures { Complains result (word_at words.now wrong.place) wrong.mistake }
+{
     let word = match words.get(wrong.place) {
         Some(word) => word.as_str(),
         None => "",
