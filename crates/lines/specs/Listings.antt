@@ -1,11 +1,13 @@
 -- What is counted and printed of lines.
-use Rattle.std.specs.Prelude.{ℕ, List, [], ◌∷◌, ◌++◌, Ok, Err, Result, cond, codes, decimal, length, ◌==◌}
+use Rattle.std.specs.Prelude.{ℕ, List, [], ◌∷◌, ◌++◌, Ok, Err, Result, cond, codes, decimal, length, take, string_bytes, ◌==◌}
 use Rattle.messages.specs.declared.fault.MessageFault.{MessageFault}
 use Rattle.messages.specs.declared.message.Message.{Message}
 use Rattle.messages.specs.Telling.{line_message}
 use Rattle.capture.specs.Counts.{more}
+use Rattle.capture.specs.Held.{held}
 use Rattle.forms.specs.Messages.{message_text}
 use Rattle.forms.specs.Texts.{fault_text}
+use Rattle.lines.specs.declared.printing.Listing.{Listing}
 use Rattle.lines.specs.declared.totals.Totals.{Totals}
 
 -- the form of what a line is
@@ -39,3 +41,29 @@ ended line t = cond (length line == 0) t (counted (line_message line) t)
 -- what is printed of that line
 abbrev pub last_listed : (line : List ℕ) → Totals → List ℕ
 last_listed line t = cond (length line == 0) [] (listed (more t.lines) (form_of (line_message line)))
+
+-- a line that was begun, the totals, and what is to be printed
+pub record Listed : Type 0 where
+  pub line : List ℕ
+  pub totals : Totals
+  pub text : List ℕ
+
+-- the line is at its end
+abbrev pub line_ended : Listed → Listed
+line_ended s = record {
+  line = [];
+  totals = counted (line_message s.line) s.totals;
+  text = s.text ++ listed (more s.totals.lines) (form_of (line_message s.line));
+}
+
+-- more of the line has come
+abbrev pub line_extended : List ℕ → Listed → Listed
+line_extended piece s = record { line = take 255 (s.line ++ piece); totals = s.totals; text = s.text }
+
+-- bytes come one after the other
+abbrev pub after_bytes : List ℕ → Listed → Listed
+after_bytes [] s = s
+after_bytes (x ∷ xs) s = after_bytes xs (cond (x == 10) (line_ended s) (line_extended (x ∷ []) s))
+
+abbrev pub listed_of : Listing → Listed
+listed_of l = record { line = held l.line; totals = l.totals; text = string_bytes l.text }

@@ -5,7 +5,7 @@ ghost use Rattle.messages.specs.Refusals.{LaidOut};
 ghost use Rattle.capture.specs.Counts.{more};
 ghost use Rattle.messages.specs.Telling.{line_message};
 ghost use Rattle.lines.specs.Evens.{Even};
-ghost use Rattle.lines.specs.Listings.{form_of, listed, counted, ended, last_listed, totals_line};
+ghost use Rattle.lines.specs.Listings.{form_of, listed, counted, ended, last_listed, totals_line, after_bytes, listed_of};
 
 use crate::rewriting::comes_back;
 use crate::totals::Totals;
@@ -44,7 +44,8 @@ impl Listing {
 
     // Takes the next bytes of the capture, in which lines may end and one may begin. The benchmark's call goes through its buffer so too, but no line of it can fail.
     pub fn take(&mut self, chunk: &[u8]) -> Result<(), AllocError>
-        ensures { Even self.old.totals → Even self.new.totals }
+        ensures even { Even self.old.totals → Even self.new.totals }
+        ensures listed { OnOk result (listed_of self.new ≡ after_bytes chunk.now (listed_of self.old)) }
     {
         let mut rest = chunk;
         loop {
