@@ -6,6 +6,7 @@ mod examples;
 mod writes;
 
 use std::process::ExitCode;
+use words::arguments::arguments;
 use words::named::Named;
 use words::program::{Failure, ended, no_words};
 
@@ -14,7 +15,7 @@ fn main(rt: HostRuntime) -> ExitCode {
 }
 
 fn show(rt: &HostRuntime) -> Result<(), Failure> {
-    no_words(rt)?;
+    no_words(arguments(rt)?)?;
     examples::hold();
     let mut output = Named::new("standard output", rt.alloc(), rt.stdout());
     writes::show_places(&mut output)?;

@@ -1,4 +1,8 @@
 // How a message is shown: its letter and then its fields, in the order of the line.
+ghost use Rattle.std.specs.Prelude.{◌++◌, Some, codes};
+ghost use Rattle.std.specs.Fmt.{WritesOnOk};
+ghost use Rattle.forms.specs.Messages.{head_said, clear_said, terms_said, add_said, attributed_said, execution_said, cancel_said, trade_said, break_said, message_text};
+
 use crate::field::{show_id, show_letter, show_number, show_participant, show_symbol};
 use fields::letter::Lettered;
 use messages::message::Message;
@@ -12,6 +16,8 @@ use std::fmt;
 pub struct Shown<'a>(pub &'a Message);
 
 impl fmt::Display for Shown<'_> {
+    ghost output = { λ s. Some (message_text s.0.now) };
+
     fn fmt<W: fmt::Write>(&self, f: &mut fmt::Formatter<W>) -> fmt::Result {
         match self.0 {
             Message::SymbolClear(clear) => show_clear(f, clear)?,
@@ -27,20 +33,31 @@ impl fmt::Display for Shown<'_> {
     }
 }
 
-fn show_clear<W: fmt::Write>(f: &mut fmt::Formatter<W>, clear: &ClearSymbol) -> fmt::Result {
-    f.write_str("(s")?;
-    show_number(f, "time", clear.time)?;
+// The letter of the kind, and the time.
+fn show_head<W: fmt::Write>(f: &mut fmt::Formatter<W>, letter: &str, time: u64) -> fmt::Result
+    ensures { WritesOnOk W.write_str_gives f.old result (head_said letter.now time) f.new }
+{
+    f.write_str(letter)?;
+    show_number(f, "time", time)
+}
+
+fn show_clear<W: fmt::Write>(f: &mut fmt::Formatter<W>, clear: &ClearSymbol) -> fmt::Result
+    ensures { WritesOnOk W.write_str_gives f.old result (clear_said clear.now) f.new }
+{
+    show_head(f, "(s", clear.time)?;
     show_symbol(f, clear.symbol)
 }
 
-// The letter of the kind, and the terms of the order.
+// The head, and the terms of the order.
+#[tactic(auto, unfolding(crate::specs::Messages::terms_said))]
 fn show_terms<W: fmt::Write, S: Lettered>(
     f: &mut fmt::Formatter<W>,
     letter: &str,
     terms: &Terms<S>,
-) -> fmt::Result {
-    f.write_str(letter)?;
-    show_number(f, "time", terms.time)?;
+) -> fmt::Result
+    ensures { WritesOnOk W.write_str_gives f.old result (terms_said S.written letter.now terms.now) f.new }
+{
+    show_head(f, letter, terms.time)?;
     show_id(f, "order", terms.order)?;
     show_letter(f, "side", terms.side)?;
     show_number(f, "shares", terms.shares)?;
@@ -48,44 +65,49 @@ fn show_terms<W: fmt::Write, S: Lettered>(
     show_number(f, "price", terms.price)
 }
 
-fn show_add<W: fmt::Write>(f: &mut fmt::Formatter<W>, letter: &str, add: &AddOrder) -> fmt::Result {
+fn show_add<W: fmt::Write>(f: &mut fmt::Formatter<W>, letter: &str, add: &AddOrder) -> fmt::Result
+    ensures { WritesOnOk W.write_str_gives f.old result (add_said letter.now add.now) f.new }
+{
     show_terms(f, letter, &add.terms)?;
     show_letter(f, "display", add.display)
 }
 
-fn show_attributed<W: fmt::Write>(f: &mut fmt::Formatter<W>, add: &AttributedAdd) -> fmt::Result {
+fn show_attributed<W: fmt::Write>(f: &mut fmt::Formatter<W>, add: &AttributedAdd) -> fmt::Result
+    ensures { WritesOnOk W.write_str_gives f.old result (attributed_said add.now) f.new }
+{
     show_add(f, "(d", &add.add)?;
     show_participant(f, add.participant)?;
     show_letter(f, "customer", add.customer)
 }
 
-fn show_execution<W: fmt::Write>(f: &mut fmt::Formatter<W>, execution: &Execution) -> fmt::Result {
-    f.write_str("(E")?;
-    show_number(f, "time", execution.time)?;
+fn show_execution<W: fmt::Write>(f: &mut fmt::Formatter<W>, execution: &Execution) -> fmt::Result
+    ensures { WritesOnOk W.write_str_gives f.old result (execution_said execution.now) f.new }
+{
+    show_head(f, "(E", execution.time)?;
     show_id(f, "order", execution.order)?;
     show_number(f, "shares", execution.shares)?;
     show_id(f, "execution", execution.execution)
 }
 
-fn show_cancel<W: fmt::Write>(f: &mut fmt::Formatter<W>, cancel: &Cancel) -> fmt::Result {
-    f.write_str("(X")?;
-    show_number(f, "time", cancel.time)?;
+fn show_cancel<W: fmt::Write>(f: &mut fmt::Formatter<W>, cancel: &Cancel) -> fmt::Result
+    ensures { WritesOnOk W.write_str_gives f.old result (cancel_said cancel.now) f.new }
+{
+    show_head(f, "(X", cancel.time)?;
     show_id(f, "order", cancel.order)?;
     show_number(f, "shares", cancel.shares)
 }
 
 // The two kinds of trades have the same fields.
-fn show_trade<W: fmt::Write>(
-    f: &mut fmt::Formatter<W>,
-    letter: &str,
-    trade: &Trade,
-) -> fmt::Result {
+fn show_trade<W: fmt::Write>(f: &mut fmt::Formatter<W>, letter: &str, trade: &Trade) -> fmt::Result
+    ensures { WritesOnOk W.write_str_gives f.old result (trade_said letter.now trade.now) f.new }
+{
     show_terms(f, letter, &trade.terms)?;
     show_id(f, "execution", trade.execution)
 }
 
-fn show_break<W: fmt::Write>(f: &mut fmt::Formatter<W>, broken: &Break) -> fmt::Result {
-    f.write_str("(B")?;
-    show_number(f, "time", broken.time)?;
+fn show_break<W: fmt::Write>(f: &mut fmt::Formatter<W>, broken: &Break) -> fmt::Result
+    ensures { WritesOnOk W.write_str_gives f.old result (break_said broken.now) f.new }
+{
+    show_head(f, "(B", broken.time)?;
     show_id(f, "execution", broken.execution)
 }

@@ -1,4 +1,5 @@
 pub mod Openings
 pub mod Questions
 pub mod Replies
+pub mod Runs
 pub mod Texts

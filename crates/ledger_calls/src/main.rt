@@ -15,6 +15,7 @@ mod verb;
 use running::run;
 use std::io::{BufReader, BufWriter};
 use std::process::ExitCode;
+use words::arguments::arguments;
 use words::named::Named;
 use words::program::{Failure, ended, no_words};
 
@@ -23,7 +24,7 @@ fn main(rt: HostRuntime) -> ExitCode {
 }
 
 fn answer(rt: &HostRuntime) -> Result<(), Failure> {
-    no_words(rt)?;
+    no_words(arguments(rt)?)?;
     let heap = rt.alloc();
     let mut input = BufReader::new(heap, Named::new("standard input", heap, rt.stdin()))?;
     let mut output = BufWriter::new(heap, Named::new("standard output", heap, rt.stdout()))?;

@@ -1,4 +1,12 @@
 // From the first line to the last.
+ghost use Rattle.std.specs.Prelude.{◌≡◌, IfSome, OnOk};
+ghost use Rattle.std.specs.Io.KnownBytes.{Appends};
+ghost use Rattle.capture.specs.Held.{held};
+ghost use Rattle.capture.specs.Lines.{lines_of};
+ghost use Rattle.ledger_calls.specs.Replies.{said_to, day_left};
+ghost use Rattle.ledger_calls.specs.Runs.{numbered, said_on, day_opened, opened_text, run_text};
+ghost use Rattle.ledger_calls.specs.Texts.{said_text};
+
 use crate::asking::say;
 use crate::opening::Opening;
 use crate::parse::opening;
@@ -12,24 +20,39 @@ use records::order::Order;
 use records::symbol_row::SymbolRow;
 use row_store::row::RowStore;
 use std::alloc::Global;
-use std::io::{BufRead, Write};
+use std::io::{BufRead, ErrorKind, Write};
 use std::{fmt, io};
 use store::store::Store;
 
 // Answers every line of the input on the output. Where the first opens no ledger, nothing more is answered.
-pub fn run<R: BufRead, W: Write>(heap: Global, input: &mut R, output: &mut W) -> io::Result<()> {
+pub fn run<R: BufRead, W: Write>(heap: Global, input: &mut R, output: &mut W) -> io::Result<()>
+    ensures { OnOk result (IfSome (R.remaining input.old) (λ bytes. Appends (W.contents output.old) (W.contents output.new) (run_text (lines_of bytes)))) }
+{
     let mut line = LineBuffer::new();
-    if !next_line(input, &mut line)? {
-        return Ok(());
+    if next_line(input, &mut line)? {
+        answer(heap, opening(line.line()), input, output)?;
     }
-    let mut count = LineCount::new();
-    let Some(opened) = opening(line.line()) else {
-        show(output, count.next(), &"(no ledger)")?;
-        return output.flush();
-    };
-    show(output, count.next(), &opened)?;
-    serve(heap, opened, count, input, output)?;
     output.flush()
+}
+
+// Answers the first line, and the others if it opens a ledger.
+fn answer<R: BufRead, W: Write>(
+    heap: Global,
+    opened: Option<Opening>,
+    input: &mut R,
+    output: &mut W,
+) -> io::Result<()>
+    ensures { OnOk result (IfSome (R.remaining input.old) (λ bytes. Appends (W.contents output.old) (W.contents output.new) (opened_text opened (lines_of bytes)))) }
+{
+    let mut count = LineCount::new();
+    let number = count.next();
+    match opened {
+        None => show(output, number, &"(no ledger)"),
+        Some(opened) => {
+            show(output, number, &opened)?;
+            serve(heap, opened, count, input, output)
+        }
+    }
 }
 
 // Answers the lines after the first by a ledger over new memory.
@@ -39,7 +62,9 @@ fn serve<R: BufRead, W: Write>(
     count: LineCount,
     input: &mut R,
     output: &mut W,
-) -> io::Result<()> {
+) -> io::Result<()>
+    ensures { OnOk result (IfSome (R.remaining input.old) (λ bytes. Appends (W.contents output.old) (W.contents output.new) (said_on count.lines (lines_of bytes) (day_opened opened)))) }
+{
     let mut orders = vec![in heap; Order::BLANK; opened.orders as usize]?;
     let mut executions = vec![in heap; Execution::BLANK; opened.executions as usize]?;
     let mut symbols = vec![in heap; SymbolRow::BLANK; opened.symbols as usize]?;
@@ -63,20 +88,37 @@ pub(crate) fn answer_lines<
     mut count: LineCount,
     input: &mut R,
     output: &mut W,
-) -> io::Result<()> {
+) -> io::Result<()>
+    ensures { OnOk result (IfSome (R.remaining input.old) (λ bytes. Appends (W.contents output.old) (W.contents output.new) (said_on count.lines (lines_of bytes) ledger.old))) }
+{
     let mut line = LineBuffer::new();
     // Nothing says that the input ends, and no handle to wait without end is used here: so the turns are counted.
     for _ in 0..u64::MAX {
         if !next_line(input, &mut line)? {
-            break;
+            return Ok(());
         }
-        let said = say(ledger, line.line());
-        show(output, count.next(), &said)?;
+        answer_line(ledger, count.next(), &line, output)?;
     }
-    Ok(())
+    Err(ErrorKind::TimedOut.into())
+}
+
+// Says what the ledger says to a line, behind the line's number.
+fn answer_line<W: Write, O: Store<Order>, E: Store<Execution>, S: Store<SymbolRow>>(
+    ledger: &mut Ledger<O, E, S>,
+    number: u64,
+    line: &LineBuffer,
+    output: &mut W,
+) -> io::Result<()>
+    ensures leaves { ledger.new ≡ day_left (held line.now) ledger.old }
+    ensures says { OnOk result (Appends (W.contents output.old) (W.contents output.new) (numbered number (said_text (said_to (held line.now) ledger.old)))) }
+{
+    let said = say(ledger, line.line());
+    show(output, number, &said)
 }
 
 // Prints what is said to a line, behind the line's number.
-fn show<W: Write, D: fmt::Display>(output: &mut W, number: u64, form: &D) -> io::Result<()> {
+fn show<W: Write, D: fmt::Display>(output: &mut W, number: u64, form: &D) -> io::Result<()>
+    ensures { OnOk result (IfSome (D.output form.now) (λ text. Appends (W.contents output.old) (W.contents output.new) (numbered number text))) }
+{
     writeln!(output, "{}", Numbered { number, form })
 }

@@ -9,6 +9,7 @@ use printing::Listing;
 use std::io;
 use std::io::{Read, Write};
 use std::process::ExitCode;
+use words::arguments::arguments;
 use words::named::Named;
 use words::program::{Failure, ended, no_words};
 
@@ -20,7 +21,7 @@ fn main(rt: HostRuntime) -> ExitCode {
 }
 
 fn asked(rt: &HostRuntime) -> Result<(), Failure> {
-    no_words(rt)?;
+    no_words(arguments(rt)?)?;
     Ok(list(rt)?)
 }
 

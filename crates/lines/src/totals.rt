@@ -1,6 +1,7 @@
 // What is counted.
-ghost use Rattle.std.specs.Prelude.{◌≡◌, if◌then◌else◌};
+ghost use Rattle.std.specs.Prelude.{◌≡◌, if◌then◌else◌, Some};
 ghost use Rattle.capture.specs.Counts.{more};
+ghost use Rattle.lines.specs.Listings.{totals_text};
 
 use std::fmt;
 
@@ -41,6 +42,8 @@ impl Totals {
 }
 
 impl fmt::Display for Totals {
+    ghost output = { λ t. Some (totals_text t) };
+
     fn fmt<W: fmt::Write>(&self, f: &mut fmt::Formatter<W>) -> fmt::Result {
         write!(
             f,

@@ -1,8 +1,8 @@
 // A reader that tells how far it is, about every second, somewhere else than where the program writes.
-ghost use Rattle.std.specs.Prelude.{◌≡◌, true, None};
+ghost use Rattle.std.specs.Prelude.{◌≡◌, true, None, take, IfOk, OnOk};
 ghost use Rattle.std.specs.Io.{ReadsAtMost};
-ghost use Rattle.std.specs.Io.KnownBytes.{ReadConsumes};
-ghost use Rattle.progress.specs.Paces.{ends_among, Paused};
+ghost use Rattle.std.specs.Io.KnownBytes.{Appends, ReadConsumes};
+ghost use Rattle.progress.specs.Paces.{ends_among, passed_since, last_told, told_line, Paused};
 
 use crate::form::ProgressForm;
 use crate::pace::Passed;
@@ -48,9 +48,11 @@ impl<R: Read, C: Clock, E: Write> Metered<R, C, E> {
         }
     }
 
-    // Tells how far it is with these bytes, if a second has passed since something was told last.
-    fn tell(&mut self, bytes: &[u8])
+    // Counts what was read, and tells of it if a line is due.
+    fn pass(&mut self, bytes: &[u8])
         ensures inner { self.new.inner ≡ self.old.inner }
+        ensures start { self.new.start ≡ self.old.start }
+        ensures passed { self.new.passed ≡ passed_since self.old.start bytes.now self.old.passed }
         ensures pause { Paused self.old.told self.new.told self.old.last self.new.last }
         ensures quiet { self.old.start ≡ None → self.new ≡ self.old }
     {
@@ -62,12 +64,24 @@ impl<R: Read, C: Clock, E: Write> Metered<R, C, E> {
             return;
         };
         let nanos = elapsed.as_nanos().min(u128::from(u64::MAX)) as u64;
+        let _ = self.tell(nanos);
+    }
+
+    // Tells what has passed by a time, if a line is due.
+    fn tell(&mut self, nanos: u64) -> io::Result<()>
+        ensures says { OnOk result (Appends (E.contents self.old.told) (E.contents self.new.told) (told_line self.old.last nanos self.old.passed)) }
+        ensures last { self.new.last ≡ last_told self.old.last nanos }
+        ensures pause { Paused self.old.told self.new.told self.old.last self.new.last }
+        ensures inner { self.new.inner ≡ self.old.inner }
+        ensures start { self.new.start ≡ self.old.start }
+        ensures passed { self.new.passed ≡ self.old.passed }
+    {
         if nanos.saturating_sub(self.last) < PAUSE {
-            return;
+            return Ok(());
         }
         self.last = nanos;
         let passed = self.passed;
-        let _ = writeln!(self.told, "{}", ProgressForm { passed, nanos });
+        writeln!(self.told, "{}", ProgressForm { passed, nanos })
     }
 }
 
@@ -77,11 +91,13 @@ impl<R: Read, C: Clock, E: Write> Read for Metered<R, C, E> {
     fn read(&mut self, buf: &mut [u8]) -> io::Result<usize>
         ensures bound { ReadsAtMost result buf.new }
         ensures bytes { ReadConsumes (R.remaining self.old.inner) (R.remaining self.new.inner) result buf.new }
+        ensures passed { IfOk result (λ count. self.new.passed ≡ passed_since self.old.start (take count buf.new) self.old.passed) }
+        ensures start { self.new.start ≡ self.old.start }
         ensures pause { Paused self.old.told self.new.told self.old.last self.new.last }
-        ensures quiet { self.old.start ≡ None → (self.new.told ≡ self.old.told) × (self.new.start ≡ None) }
+        ensures quiet { self.old.start ≡ None → self.new.told ≡ self.old.told }
     {
         let count = self.inner.read(buf)?;
-        self.tell(&buf[..count]);
+        self.pass(&buf[..count]);
         Ok(count)
     }
 }

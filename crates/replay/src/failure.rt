@@ -1,4 +1,6 @@
 // Why nothing is replayed, or no more.
+ghost use Rattle.replay.specs.Failures.{failure_text};
+
 use options::complaint::Complaint;
 use std::fmt;
 use std::io::{Error, ErrorKind};
@@ -23,6 +25,8 @@ impl<'a> From<Error> for Failure<'a> {
 }
 
 impl fmt::Display for Failure<'_> {
+    ghost output = { failure_text };
+
     fn fmt<W: fmt::Write>(&self, f: &mut fmt::Formatter<W>) -> fmt::Result {
         match self {
             Failure::Command(complaint) => write!(f, "{complaint} (--help shows the usage)"),

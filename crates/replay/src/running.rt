@@ -1,4 +1,6 @@
 // From the command line to the report.
+ghost use Rattle.replay.specs.Failures.{Complains, word_at};
+
 use crate::failure::Failure;
 use options::complaint::Complaint;
 use options::mistake::Wrong;
@@ -38,7 +40,9 @@ pub fn run<'a>(rt: &HostRuntime, words: &'a [Vec<u8>]) -> Result<(), Failure<'a>
 }
 
 // What is wrong, at the word where it shows.
-fn told<'a>(words: &'a [Vec<u8>], wrong: Wrong) -> Failure<'a> {
+fn told<'a>(words: &'a [Vec<u8>], wrong: Wrong) -> Failure<'a>
+    ensures { Complains result (word_at words.now wrong.place) wrong.mistake }
+{
     let word = match words.get(wrong.place) {
         Some(word) => word.as_slice(),
         None => b"",

@@ -9,6 +9,7 @@ mod tests;
 use running::run;
 use std::io::{BufWriter, Read};
 use std::process::ExitCode;
+use words::arguments::arguments;
 use words::named::Named;
 use words::program::{Failure, ended, no_words};
 
@@ -17,7 +18,7 @@ fn main(rt: HostRuntime) -> ExitCode {
 }
 
 fn replay_all(rt: &HostRuntime) -> Result<(), Failure> {
-    no_words(rt)?;
+    no_words(arguments(rt)?)?;
     let heap = rt.alloc();
     let mut input = Named::new("standard input", heap, rt.stdin());
     let mut day = Vec::new(heap);

@@ -4,6 +4,7 @@ use options::complaint::Complaint;
 use options::mistake::Wrong;
 use options::reading::read;
 use options::request::Request;
+use options::usage::USAGE;
 use replaying::replay::replay;
 use std::alloc::Global;
 use std::io;
@@ -41,7 +42,7 @@ fn perform<W: Write>(heap: Global, command: &str, day: &[u8], output: &mut W) ->
 
 fn follow<W: Write>(heap: Global, request: &Request, day: &[u8], output: &mut W) -> io::Result<()> {
     if request.options.shown.help {
-        return writeln!(output, "(the usage)");
+        return write!(output, "{USAGE}");
     }
     let mut input = day;
     replay(heap, &request.options, &mut input, output)

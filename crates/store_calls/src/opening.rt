@@ -57,7 +57,9 @@ fn open_over<R: BufRead, W: Write, S: Store<Order> + Fronted + Drop>(
 fn serve_new<R: BufRead, W: Write, S: Store<Order> + Fronted + Drop>(
     session: &mut Session<'_, R, W>,
     mut store: S,
-) -> io::Result<Option<Opening>> {
+) -> io::Result<Option<Opening>>
+    requires { S.Store.ready store }
+{
     session.reply(Reply::Opened(store.limit()))?;
     serve(session, |call| answer(&mut store, call))
 }

@@ -1,5 +1,7 @@
 // What is kept from line to line: where calls come from, where answers go, and how many were answered.
-ghost use Rattle.std.specs.Prelude.{◌≡◌};
+ghost use Rattle.std.specs.Prelude.{◌≡◌, ◌++◌, ◌∷◌, [], OnOk};
+ghost use Rattle.std.specs.Io.KnownBytes.{Appends};
+ghost use Rattle.calls.specs.Texts.{numbered_text};
 ghost use Rattle.capture.specs.Counts.{more};
 
 use calls::call::Request;
@@ -51,7 +53,8 @@ impl<'a, R: BufRead, W: Write> Session<'a, R, W> {
 
     // Writes the answer to the next line, and holds nothing back.
     pub fn reply(&mut self, reply: Reply) -> io::Result<()>
-        ensures { self.new.answered.lines ≡ more self.old.answered.lines }
+        ensures counts { self.new.answered.lines ≡ more self.old.answered.lines }
+        ensures says { OnOk result (Appends (W.contents self.old.output.now) (W.contents self.new.output.now) (numbered_text (more self.old.answered.lines) reply ++ 10 ∷ [])) }
     {
         let numbered = Numbered {
             number: self.answered.next(),

@@ -1,5 +1,6 @@
 // The words of a program's command line.
-ghost use Rattle.std.specs.Prelude.{◌≡◌, map, IfOk};
+ghost use Rattle.std.specs.Prelude.{◌≡◌, map, IfOk, IfErr};
+ghost use Rattle.std.specs.IoError.{error_kind};
 
 use std::alloc::Global;
 use std::env::{Env, FillError};
@@ -9,8 +10,10 @@ use std::io::ErrorKind;
 // Most words are shorter than that.
 const ROOM: usize = 256;
 
-// Without the program's own name. They are bytes: nothing says that they are UTF-8.
-pub fn arguments(rt: &HostRuntime) -> io::Result<Vec<Vec<u8>>> {
+// Without the program's own name. They are bytes: nothing says that they are UTF-8. Only the memory can fail.
+pub fn arguments(rt: &HostRuntime) -> io::Result<Vec<Vec<u8>>>
+    ensures { IfErr result (λ error. error_kind error ≡ ErrorKind.OutOfMemory) }
+{
     let mut words = Vec::new(rt.alloc());
     for place in 1..usize::MAX {
         let Some(word) = argument(rt, place)? else {
@@ -37,7 +40,9 @@ pub fn bytes_of<'a>(heap: Global, words: &'a [Vec<u8>]) -> io::Result<Vec<&'a [u
 }
 
 // The word at a place, if there is one.
-fn argument(rt: &HostRuntime, place: usize) -> io::Result<Option<Vec<u8>>> {
+fn argument(rt: &HostRuntime, place: usize) -> io::Result<Option<Vec<u8>>>
+    ensures { IfErr result (λ error. error_kind error ≡ ErrorKind.OutOfMemory) }
+{
     let mut room = ROOM;
     for _ in 0..usize::BITS {
         let mut bytes = vec![in rt.alloc(); 0u8; room]?;

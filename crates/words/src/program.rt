@@ -1,10 +1,9 @@
 // How a program ends, and how it says what is wrong: in one line on standard error.
-ghost use Rattle.std.specs.Prelude.{◌≡◌, MatchResult};
+ghost use Rattle.std.specs.Prelude.{◌≡◌, None, Some, MatchResult};
 ghost use Rattle.std.specs.Process.{exit_status};
-ghost use Rattle.words.specs.Failures.{failure_text};
+ghost use Rattle.words.specs.Failures.{failure_text, refusal};
 ghost use Rattle.words.specs.declared.program.Failure.TheVariants.{Other};
 
-use crate::arguments::arguments;
 use crate::quoted::Quoted;
 use std::fmt;
 use std::io::Error;
@@ -41,9 +40,11 @@ impl fmt::Display for Failure {
     }
 }
 
-// Refuses every word.
-pub fn no_words(rt: &HostRuntime) -> Result<(), Failure> {
-    match arguments(rt)?.into_iter().next() {
+// Refuses the first word, if there is one.
+pub fn no_words(words: Vec<Vec<u8>>) -> Result<(), Failure>
+    ensures { MatchResult result (λ _. refusal words.items ≡ None) (λ failure. refusal words.items ≡ Some failure) }
+{
+    match words.into_iter().next() {
         Some(word) => Err(Failure::Word(word)),
         None => Ok(()),
     }
