@@ -65,9 +65,8 @@ fn take_piece<W: Write, O: Store<Order>, E: Store<Execution>, S: Store<SymbolRow
 {
     let mut rest = piece;
     while let Some((end, next)) = cut_line(rest) {
-        // Not taken apart: the answer would be copied, and wait for what the ledger has written.
-        let answered = put(ledger, begun, end, seen);
-        tell(shown, answered.0, &answered.1, output)?;
+        let answer = put(ledger, begun, end, seen);
+        tell(shown, seen.lines.lines, &answer, output)?;
         rest = next;
     }
     begun.extend(rest);
@@ -95,26 +94,27 @@ fn take_last<W: Write, O: Store<Order>, E: Store<Execution>, S: Store<SymbolRow>
     if begun.is_empty() {
         return Ok(());
     }
-    let answered = put(ledger, begun, &[], seen);
-    tell(shown, answered.0, &answered.1, output)
+    let answer = put(ledger, begun, &[], seen);
+    tell(shown, seen.lines.lines, &answer, output)
 }
 
-// Puts the line that was begun and ends so to the ledger, or what of it is passed on: its number, and what it is answered.
+// Puts the line that was begun and ends so to the ledger, or what of it is passed on: what it is answered.
 fn put<O: Store<Order>, E: Store<Execution>, S: Store<SymbolRow>>(
     ledger: &mut Ledger<O, E, S>,
     begun: &mut LineBuffer,
     end: &[u8],
     seen: &mut Seen,
-) -> (u64, Result<Outcome, LedgerFault>)
+) -> Result<Outcome, LedgerFault>
     ensures leaves { ledger.new ≡ next (take 255 (held begun.old ++ end.now)) ledger.old }
     ensures counts { seen.new ≡ one_seen (answer (take 255 (held begun.old ++ end.now)) ledger.old) seen.old }
-    ensures says { result ≡ (seen.new.lines.lines, answer (take 255 (held begun.old ++ end.now)) ledger.old) }
+    ensures says { result ≡ answer (take 255 (held begun.old ++ end.now)) ledger.old }
     ensures clears { held begun.new ≡ [] }
 {
     let whole = is_whole(begun, end);
     let answer = ledger.put(line_of(begun, end, whole));
     begun.clear();
-    (seen.count(&answer), answer)
+    seen.count(&answer);
+    answer
 }
 
 // Whether the line that ends so lies whole in the piece, as most do: these are not copied. Others are gathered.

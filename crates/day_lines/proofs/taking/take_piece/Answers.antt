@@ -11,12 +11,12 @@ loop-end-preserved g c none =
     let is = g.W.Write.contents c.tell.new.output in
     let begun = held c.loop-end.begun in
     let line = take 255 (begun ++ c.in-Some.end.now) in
-    let put = c.put-answered in
+    let put = c.put-answer in
     cutting_on c.args.shown (held c.args.begun.now) c.args.piece.now begun c.loop-end.rest.now (g.W.Write.contents c.args.output.now) was c.args.seen.now c.loop-end.seen c.args.ledger.now c.loop-end.ledger
     (c.loop-end.invariant none) line (held put.new.begun) c.in-Some.next.now is put.new.seen put.new.ledger (sym c.in-Some.ensures.1)
     (ap (λ e. take 255 (begun ++ e)) c.in-Some.ensures.0) put.ensures.clears
     (taken_one c.args.shown line was is c.loop-end.seen put.new.seen c.loop-end.ledger put.new.ledger put.ensures.counts put.ensures.leaves
-    (subst (λ p. Appends was is (answer_line c.args.shown p.0 p.1)) put.ensures.says c.in_ok-tell.ensures))
+    (subst (λ a. Appends was is (answer_line c.args.shown put.new.seen.lines.lines a)) put.ensures.says c.in_ok-tell.ensures))
 
 pub returns : goal.returns
 returns g c none =
