@@ -1,5 +1,5 @@
 pub mod Counting
 mod Cutting
-mod Printing
+pub mod Printing
 mod Putting
 pub mod Places

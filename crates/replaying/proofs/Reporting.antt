@@ -1,10 +1,7 @@
--- Counts that are printed one after the other, and all that a report has.
-use Rattle.std.proofs.Common.{◌≡◌, ℕ, ◌+◌, ◌<◌, ◌≤◌, List, [], ◌∷◌, ◌++◌, length, get_or, drop, Ok, Err, Option, Some, None, Result, OnOk, IfSome, sym, refl, ap, subst, ◌∙◌, append_assoc, append-nil}
+-- All that a report has.
+use Rattle.std.proofs.Common.{◌≡◌, ℕ, List, ◌++◌, length, Ok, Err, Option, Some, None, Result, OnOk, IfSome, ap, subst, ◌∙◌}
 use Rattle.std.specs.Io.KnownBytes.{Appends}
-use Rattle.std.proofs.KnownBytes.{Appends-nil, Appends-trans}
-use Rattle.std.proofs.lemmas.List.{drop_all}
-use Rattle.std.proofs.Math.Seq.{drop-cons}
-use native.Mathlib.Numerals.{unary_clauses}
+use Rattle.std.proofs.KnownBytes.{Appends-trans}
 use Rattle.capture.specs.Lines.{lines_of}
 use Rattle.day_rules.specs.Days.{Day}
 use Rattle.day_rules.specs.Lines.{day_after, answers_to}
@@ -15,33 +12,7 @@ use Rattle.day_lines.specs.Texts.{answers_text}
 use Rattle.day_lines.proofs.Places.{all_rows}
 use Rattle.options.specs.declared.options.Options.{Options}
 use Rattle.options.specs.declared.options.Shown.{Shown}
-use Rattle.replaying.specs.Texts.{times_line, counts_text, closing, closing_of, printed, day_of, room_printed, replay_text}
-
--- the counts up to the place n are printed
-pub record Counting (was is : Option (List ℕ)) (counts : List ℕ) (n : ℕ) : Type 0 where
-  pub printed : List ℕ
-  pub appends : Appends was is printed
-  pub text : printed ++ counts_text n (drop n counts) ≡ counts_text 0 counts
-
-module _ (was : Option (List ℕ)) (counts : List ℕ) where
-  pub counting_starts : Counting was was counts 0
-  counting_starts = record { printed = []; appends = Appends-nil was; text = refl }
-
-  module _ (is : Option (List ℕ)) (n : ℕ) (s : Counting was is counts n) where
-    pub counting_on : (is' : Option (List ℕ)) (default : ℕ) → n < length counts → Appends is is' (times_line n (get_or counts n default)) → Counting was is' counts (n + 1)
-    counting_on is' default more shown =
-        let said = times_line n (get_or counts n default) in
-        let first : drop n counts ≡ get_or counts n default ∷ drop (n + 1) counts = simp unary_clauses (drop-cons counts n default more) in record {
-          printed = s.printed ++ said;
-          appends = Appends-trans was is is' s.printed said s.appends shown;
-          text =
-              append_assoc s.printed said (counts_text (n + 1) (drop (n + 1) counts))
-              ∙ ap (λ cs. s.printed ++ counts_text n cs) (sym first) ∙ s.text;
-        }
-
-    pub counting_ends : length counts ≤ n → Appends was is (counts_text 0 counts)
-    counting_ends over =
-        subst (Appends was is) (sym (append-nil s.printed) ∙ ap (λ cs. s.printed ++ counts_text n cs) (sym (drop_all n counts over)) ∙ s.text) s.appends
+use Rattle.replaying.specs.Texts.{closing, closing_of, printed, day_of, room_printed, replay_text}
 
 -- one text and then another
 pub both : {E : Type 0} (r : Result (Unit {0}) E) (was between is : Option (List ℕ)) (x y : List ℕ) → Appends was between x → OnOk r (Appends between is y) → OnOk r (Appends was is (x ++ y))
