@@ -110,15 +110,15 @@ fn put<O: Store<Order>, E: Store<Execution>, S: Store<SymbolRow>>(
     ensures says { result ≡ answer (take 255 (held begun.old ++ end.now)) ledger.old }
     ensures clears { held begun.new ≡ [] }
 {
-    let whole = is_whole(begun, end);
+    let whole = gather_unless_whole(begun, end);
     let answer = ledger.put(line_of(begun, end, whole));
     begun.clear();
     seen.count(&answer);
     answer
 }
 
-// Whether the line that ends so lies whole in the piece, as most do: these are not copied. Others are gathered.
-fn is_whole(begun: &mut LineBuffer, end: &[u8]) -> bool
+// Gathers a line that was begun, or is longer than what is passed on, and answers whether it lies whole in the piece instead. Most do, and are not copied.
+fn gather_unless_whole(begun: &mut LineBuffer, end: &[u8]) -> bool
     ensures { cond result end.now (held begun.new) ≡ take 255 (held begun.old ++ end.now) }
 {
     if begun.is_empty() && end.len() <= 255 {
