@@ -37,7 +37,7 @@ impl<R: Record, S: Store<R>> Store<R> for Capped<S> {
     }
 
     // A search of its own only at the allotment: before that the store below looks whether the key is held.
-    #[inline]
+    #[inline(always)]
     fn insert(&mut self, item: R) -> Result<(), InsertRefusal> {
         if self.below.count() < self.allotment {
             self.below.insert(item)
@@ -52,6 +52,7 @@ impl<R: Record, S: Store<R>> Store<R> for Capped<S> {
         self.below.replace(item)
     }
 
+    #[inline(always)]
     fn remove(&mut self, key: u64) -> Option<R> {
         self.below.remove(key)
     }

@@ -5,7 +5,9 @@ ghost use Rattle.capture.specs.Splits.{before_end, after_end};
 
 use memchr::memchr;
 
-// What stands before the first line end and what stands after it; without a line end all of it, and nothing.
+// What stands before the first line end and what stands after it; without a line end all of it, and nothing. Inlined, since the two
+// slices would be written and read again for each line.
+#[inline(always)]
 pub fn split_line(bytes: &[u8]) -> (&[u8], Option<&[u8]>)
     ensures first { result.0.now ≡ before_end bytes.now }
     ensures second { MatchOption result.1 (after_end bytes.now ≡ None) (λ x. (after_end bytes.now ≡ Some x.now) × (length x.now < length bytes.now)) }

@@ -25,6 +25,12 @@ use std::io;
 use std::io::{BufRead, ErrorKind, Write};
 use store::store::Store;
 
+// What stands in an answer's place before the line is put.
+const NO_ANSWER: Result<Outcome, LedgerFault> = Ok(Outcome {
+    orders: 0,
+    shares: 0,
+});
+
 // Puts each line of the input to the ledger, prints its number and what it is answered if that is to be shown, and answers what became of all.
 pub fn take_lines<R: BufRead, W: Write, O: Store<Order>, E: Store<Execution>, S: Store<SymbolRow>>(
     ledger: &mut Ledger<O, E, S>,
@@ -63,9 +69,10 @@ fn take_piece<W: Write, O: Store<Order>, E: Store<Execution>, S: Store<SymbolRow
 ) -> io::Result<()>
     ensures { OnOk result (PieceTaken shown (held begun.old) piece.now (held begun.new) (W.contents output.old) (W.contents output.new) seen.old seen.new ledger.old ledger.new) }
 {
+    let mut answer = NO_ANSWER;
     let mut rest = piece;
     while let Some((end, next)) = cut_line(rest) {
-        let answer = put(ledger, begun, end, seen);
+        put(ledger, begun, end, seen, &mut answer);
         tell(shown, seen.lines.lines, &answer, output)?;
         rest = next;
     }
@@ -74,6 +81,7 @@ fn take_piece<W: Write, O: Store<Order>, E: Store<Execution>, S: Store<SymbolRow
 }
 
 // The bytes before the first line end and those behind it, if there is one.
+#[inline(always)]
 fn cut_line(bytes: &[u8]) -> Option<(&[u8], &[u8])>
     ensures { MatchOption result (after_end bytes.now ≡ None) (λ p. (p.0.now ≡ before_end bytes.now) × (after_end bytes.now ≡ Some p.1.now) × (length p.1.now < length bytes.now)) }
 {
@@ -94,27 +102,29 @@ fn take_last<W: Write, O: Store<Order>, E: Store<Execution>, S: Store<SymbolRow>
     if begun.is_empty() {
         return Ok(());
     }
-    let answer = put(ledger, begun, &[], seen);
+    let mut answer = NO_ANSWER;
+    put(ledger, begun, &[], seen, &mut answer);
     tell(shown, seen.lines.lines, &answer, output)
 }
 
-// Puts the line that was begun and ends so to the ledger, or what of it is passed on: what it is answered.
+// Puts the line that was begun and ends so to the ledger, or what of it is passed on. The answer is lent, so that it is not copied behind the call: such a copy
+// waits for all that was written before it, a record's slot included.
 fn put<O: Store<Order>, E: Store<Execution>, S: Store<SymbolRow>>(
     ledger: &mut Ledger<O, E, S>,
     begun: &mut LineBuffer,
     end: &[u8],
     seen: &mut Seen,
-) -> Result<Outcome, LedgerFault>
+    said: &mut Result<Outcome, LedgerFault>,
+)
     ensures leaves { ledger.new ≡ next (take 255 (held begun.old ++ end.now)) ledger.old }
     ensures counts { seen.new ≡ one_seen (answer (take 255 (held begun.old ++ end.now)) ledger.old) seen.old }
-    ensures says { result ≡ answer (take 255 (held begun.old ++ end.now)) ledger.old }
+    ensures says { said.new ≡ answer (take 255 (held begun.old ++ end.now)) ledger.old }
     ensures clears { held begun.new ≡ [] }
 {
     let whole = gather_unless_whole(begun, end);
-    let answer = ledger.put(line_of(begun, end, whole));
+    *said = ledger.put(line_of(begun, end, whole));
     begun.clear();
-    seen.count(&answer);
-    answer
+    seen.count(said);
 }
 
 // Gathers a line that was begun, or is longer than what is passed on, and answers whether it lies whole in the piece instead. Most do, and are not copied.

@@ -42,6 +42,7 @@ impl<'a, R: Record> Store<R> for HashedStore<'a, R> {
         next_held(&self.slots, place)
     }
 
+    #[inline(always)]
     fn insert(&mut self, item: R) -> Result<(), InsertRefusal> {
         self.reach = put(&mut self.slots, item, self.reach)?;
         self.count = self.count.saturating_add(1);
@@ -52,6 +53,7 @@ impl<'a, R: Record> Store<R> for HashedStore<'a, R> {
         exchange(&mut self.slots, item, self.reach)
     }
 
+    #[inline(always)]
     fn remove(&mut self, key: u64) -> Option<R> {
         let removed = remove_from(&mut self.slots, key, self.reach)?;
         self.count = self.count.saturating_sub(1);

@@ -2,6 +2,8 @@
 //
 // These take the slots and the reach, and not the store: a call of the store only hands them on, so that its proof needs no file and a wrong operand
 // is refused where it stands (docs/PROVING.md). A struct of the two would be the store once more.
+//
+// What puts a record in or takes it out is inlined, so that it is written to its slot from where it was made, and not copied on the way.
 ghost use Rattle.std.specs.Prelude.{◌≡◌, ◌^◌, ◌<◌, ◌≤◌, length, MatchResult};
 ghost use Rattle.store.specs.Lists.{lookup};
 ghost use Rattle.hashed_store.specs.Holes.{Kept};
@@ -39,6 +41,7 @@ pub(crate) fn find_in<R: Record>(slots: &Slots<'_, R>, key: u64, reach: usize) -
 }
 
 // Puts a record into the first empty slot of its way, and answers the reach that it makes.
+#[inline(always)]
 pub(crate) fn put<R: Record>(
     slots: &mut Slots<'_, R>,
     item: R,
@@ -70,6 +73,7 @@ pub(crate) fn exchange<R: Record>(
 }
 
 // Takes the record at a place out, and closes the hole.
+#[inline(always)]
 pub(crate) fn take_at<R: Record>(slots: &mut Slots<'_, R>, place: usize, reach: usize) -> Option<R>
     requires { place < length slots.old }
     ensures is { result ≡ slot_at slots.old place }
@@ -82,6 +86,7 @@ pub(crate) fn take_at<R: Record>(slots: &mut Slots<'_, R>, place: usize, reach: 
 }
 
 // Takes the record with a key out, and answers it.
+#[inline(always)]
 pub(crate) fn remove_from<R: Record>(slots: &mut Slots<'_, R>, key: u64, reach: usize) -> Option<R>
     ensures { Removed R.Record.key key reach slots.old slots.new result }
 {

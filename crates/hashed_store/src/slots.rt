@@ -69,6 +69,7 @@ impl<'a, R: Record> Slots<'a, R> {
         look_at(self.tags, self.rows, place, key, tag)
     }
 
+    #[inline(always)]
     pub(crate) fn set(&mut self, place: usize, slot: Option<R>)
         requires { place < length self.old }
         ensures { self.new ≡ slice_set self.old place slot }
@@ -128,6 +129,7 @@ fn look_at<R: Record>(tags: &[u8], rows: &[R], place: usize, key: u64, tag: u8) 
 }
 
 #[tactic(auto, using(crate::proofs::Lent::below_tags, crate::proofs::Lent::below_rows, crate::proofs::Lent::filled_slots, crate::proofs::Lent::emptied_slots, crate::proofs::Lent::tagged_filled, crate::proofs::Lent::tagged_emptied))]
+#[inline(always)]
 fn write<R: Record>(tags: &mut [u8], rows: &mut [R], place: usize, slot: Option<R>)
     requires { (place < length (slots_of tags.old rows.old)) × Tagged R.Record.key tags.old rows.old }
     ensures sets { slots_of tags.new rows.new ≡ slice_set (slots_of tags.old rows.old) place slot }

@@ -19,6 +19,7 @@ impl<O: Store<Order>, E: Store<Execution>, S: Store<SymbolRow>> Ledger<O, E, S> 
     }
 
     // Whether an order may come to rest.
+    #[inline(always)]
     pub(crate) fn may_rest(&self, order: &Order) -> Result<(), LedgerFault>
         ensures { result ≡ may_rest order.now self.now }
     {
@@ -48,6 +49,7 @@ impl<O: Store<Order>, E: Store<Execution>, S: Store<SymbolRow>> Ledger<O, E, S> 
     }
 
     // Whether an execution of the symbol may be stored under the Execution ID.
+    #[inline(always)]
     pub(crate) fn may_trade(&self, execution: u64, symbol: u64) -> Result<(), LedgerFault>
         ensures { result ≡ may_trade execution symbol self.now }
     {

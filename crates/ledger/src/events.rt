@@ -1,4 +1,6 @@
 // What each message does. Its checks leave the stores nothing to refuse, but a row that stands already.
+//
+// Here and in the checks, what most messages pass is inlined: a record or an answer that a call hands on is cleared, written and copied in memory (docs/PERFORMANCE.md).
 ghost use Rattle.std.specs.Prelude.{◌≡◌, ◌≤◌, Some};
 ghost use Rattle.messages.specs.declared.message.Message.TheVariants.{OrderExecuted, OrderCancel};
 ghost use Rattle.day_rules.specs.Events.{clears, adds, trades, breaks, event_of};
@@ -30,6 +32,7 @@ impl<O: Store<Order>, E: Store<Execution>, S: Store<SymbolRow>> Ledger<O, E, S> 
     }
 
     // An order comes to rest.
+    #[inline(always)]
     pub(crate) fn add(&mut self, order: Order) -> Result<Outcome, LedgerFault>
         ensures says { result ≡ answered (adds order) self.old }
         ensures leaves { self.new ≡ followed (adds order) self.old }
@@ -71,6 +74,7 @@ impl<O: Store<Order>, E: Store<Execution>, S: Store<SymbolRow>> Ledger<O, E, S> 
     }
 
     // Shares are traded; no order is looked up, whatever rests under the Order ID.
+    #[inline(always)]
     pub(crate) fn trade(&mut self, execution: Execution) -> Result<Outcome, LedgerFault>
         ensures says { result ≡ answered (trades execution) self.old }
         ensures leaves { self.new ≡ followed (trades execution) self.old }
@@ -106,6 +110,7 @@ impl<O: Store<Order>, E: Store<Execution>, S: Store<SymbolRow>> Ledger<O, E, S> 
     }
 
     // Takes shares off an order that rests, and the order off the book with the last of them.
+    #[inline(always)]
     fn reduce(&mut self, order: Order, shares: u64) -> Outcome
         requires { shares ≤ order.shares }
         ensures says { result ≡ leaving shares (Some order) }
@@ -130,6 +135,7 @@ impl<O: Store<Order>, E: Store<Execution>, S: Store<SymbolRow>> Ledger<O, E, S> 
     }
 
     // Stores an execution, with its shares and value on the row of its symbol, and answers the row's volume.
+    #[inline(always)]
     fn fill(&mut self, execution: Execution) -> u64
         ensures says { result ≡ (row_after execution self.old).volume }
         ensures leaves { self.new ≡ filled execution self.old }

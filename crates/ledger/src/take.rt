@@ -75,8 +75,9 @@ impl<O: Store<Order>, E: Store<Execution>, S: Store<SymbolRow>> Ledger<O, E, S> 
             Message::AddLong(attributed) => self.add(order_of(&attributed.add)),
             Message::OrderExecuted(executed) => self.execute(executed),
             Message::OrderCancel(cancel) => self.cancel(cancel),
-            Message::TradeShort(trade) => self.trade(trade_of(trade)),
-            Message::TradeLong(trade) => self.trade(trade_of(trade)),
+            Message::TradeShort(trade) | Message::TradeLong(trade) => {
+                self.trade(trade_of(trade))
+            }
             Message::TradeBreak(broken) => self.break_execution(broken.execution),
         }
     }

@@ -11,7 +11,7 @@ loop-end-preserved g c none =
     let is = g.W.Write.contents c.tell.new.output in
     let begun = held c.loop-end.begun in
     let line = take 255 (begun ++ c.in-Some.end.now) in
-    let put = c.put-answer in
+    let put = c.put in
     cutting_on c.args.shown (held c.args.begun.now) c.args.piece.now begun c.loop-end.rest.now (g.W.Write.contents c.args.output.now) was c.args.seen.now c.loop-end.seen c.args.ledger.now c.loop-end.ledger
     (c.loop-end.invariant none) line (held put.new.begun) c.in-Some.next.now is put.new.seen put.new.ledger (sym c.in-Some.ensures.1)
     (ap (λ e. take 255 (begun ++ e)) c.in-Some.ensures.0) put.ensures.clears
