@@ -1,6 +1,10 @@
 -- Counting lines.
 use Rattle.std.specs.Prelude.{ℕ, ◌+◌, ◌-◌, ◌^◌, min}
 
--- one more, up to the most that a count holds
+-- a number as far as a count goes
+abbrev pub at_most : ℕ → ℕ
+at_most n = min n (2 ^ 64 - 1)
+
+-- one more
 abbrev pub more : ℕ → ℕ
-more n = min (n + 1) (2 ^ 64 - 1)
+more n = at_most (n + 1)

@@ -1,5 +1,5 @@
 -- How a day's answers, records and totals are shown.
-use Rattle.std.specs.Prelude.{ℕ, Bool, true, false, List, [], ◌++◌, Some, None, Ok, Err, Option, codes, decimal, Result, encode_utf8}
+use Rattle.std.specs.Prelude.{ℕ, Bool, true, false, List, [], ◌∷◌, ◌++◌, Some, None, Ok, Err, Option, codes, decimal, Result, encode_utf8}
 use Rattle.messages.specs.Codes.{side_letter, display_letter}
 use Rattle.forms.specs.Texts.{id_text, symbol_text, refused, refused_with, fault_text}
 use Rattle.records.specs.declared.order.Order.{Order as OrderKept}
@@ -34,6 +34,10 @@ refusal_text fault = refused (refusal_number fault)
 abbrev pub answer_text : Result Outcome LedgerFault → List ℕ
 answer_text (Ok outcome) = outcome_text outcome
 answer_text (Err fault) = refusal_text fault
+
+-- a text behind the number of its line, on a line of its own
+abbrev pub numbered_line : (number : ℕ) (text : List ℕ) → List ℕ
+numbered_line number text = codes "(line " ++ (decimal number ++ (codes " " ++ (text ++ (codes ")" ++ (10 ∷ [])))))
 
 -- behind a space a word and what it says, and then the rest
 abbrev pub field : (word said rest : List ℕ) → List ℕ

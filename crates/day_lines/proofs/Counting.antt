@@ -2,13 +2,14 @@
 use Rattle.std.proofs.Common.{◌≡◌, ℕ, zero, suc, ◌+◌, ◌-◌, ◌^◌, ◌<◌, ◌≤◌, List, [], ◌∷◌, length, replicate, Ok, Err, Result, sym, refl, ap, subst, ◌∙◌, ⊎_elim, arith, eq-eqb, ne_eqb, length-set}
 use Rattle.std.proofs.lemmas.Bool.{cases_eq, cases_lt}
 use Rattle.std.proofs.lemmas.List.{get_or-set_same, get_or-set_other, get_or-replicate, get_or_past}
+use Rattle.capture.specs.Counts.{at_most}
 use Rattle.day_rules.specs.declared.fault.LedgerFault.{LedgerFault}
 use Rattle.day_rules.specs.declared.outcome.Outcome.{Outcome}
 use Rattle.day_rules.proofs.Numbers.{number_small}
 use Rattle.day_rules.specs.Faults.{refusal_number}
 use Rattle.day_rules.specs.Lines.{times_refused}
 use Rattle.day_lines.specs.declared.seen.Seen.{Seen}
-use Rattle.day_lines.specs.Seen.{at_most, count_at, counted, answer_counted, none_seen, one_seen, all_seen, times_from, IsSeen}
+use Rattle.day_lines.specs.Seen.{count_at, counted, answer_counted, none_seen, one_seen, all_seen, times_from, IsSeen}
 
 -- each refusal has a count, and no count passes the most that it holds
 record Counts (counts : List ℕ) : Type 0 where

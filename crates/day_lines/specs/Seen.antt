@@ -1,15 +1,11 @@
 -- What became of lines: how many there were, and how often each refusal came.
-use Rattle.std.specs.Prelude.{◌≡◌, ℕ, zero, suc, ◌+◌, ◌^◌, ◌-◌, List, [], ◌∷◌, length, min, replicate, Ok, Err, Result, slice_index_or, slice_set}
-use Rattle.capture.specs.Counts.{more}
+use Rattle.std.specs.Prelude.{◌≡◌, ℕ, zero, suc, ◌+◌, List, [], ◌∷◌, length, replicate, Ok, Err, Result, slice_index_or, slice_set}
+use Rattle.capture.specs.Counts.{at_most, more}
 use Rattle.day_rules.specs.declared.fault.LedgerFault.{LedgerFault}
 use Rattle.day_rules.specs.declared.outcome.Outcome.{Outcome}
 use Rattle.day_rules.specs.Faults.{refusal_number}
 use Rattle.day_rules.specs.Lines.{times_refused}
 use Rattle.day_lines.specs.declared.seen.Seen.{Seen}
-
--- a number as far as a count goes
-abbrev pub at_most : ℕ → ℕ
-at_most n = min n (2 ^ 64 - 1)
 
 -- the count at the place n
 abbrev pub count_at : ℕ → List ℕ → ℕ

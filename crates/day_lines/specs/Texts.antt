@@ -1,12 +1,12 @@
 -- What is printed of lines and rows.
-use Rattle.std.specs.Prelude.{ℕ, Bool, cond, List, [], ◌∷◌, ◌++◌, codes, decimal, Result}
+use Rattle.std.specs.Prelude.{ℕ, Bool, cond, List, [], ◌∷◌, ◌++◌, Result}
 use Rattle.capture.specs.Counts.{more}
 use Rattle.records.specs.declared.symbol_row.SymbolRow.{SymbolRow}
 use Rattle.day_rules.specs.declared.fault.LedgerFault.{LedgerFault}
 use Rattle.day_rules.specs.declared.outcome.Outcome.{Outcome}
 use Rattle.day_rules.specs.Days.{Day}
 use Rattle.day_rules.specs.Rules.{answer, next}
-use Rattle.day_forms.specs.Texts.{answer_text, row_text}
+use Rattle.day_forms.specs.Texts.{answer_text, numbered_line, row_text}
 use Rattle.reports.specs.Texts.{row_report}
 
 -- with a line end
@@ -15,8 +15,7 @@ in_line text = text ++ (10 ∷ [])
 
 -- a line's number and what it is answered, if that is shown
 abbrev pub answer_line : (shown : Bool) (number : ℕ) → Result Outcome LedgerFault → List ℕ
-answer_line shown number answered =
-    cond shown (codes "(line " ++ (decimal number ++ (codes " " ++ (answer_text answered ++ (codes ")" ++ (10 ∷ [])))))) []
+answer_line shown number answered = cond shown (numbered_line number (answer_text answered)) []
 
 -- of lines put to a day one after the other, where so many came before
 abbrev pub answers_text : (shown : Bool) → ℕ → List (List ℕ) → Day → List ℕ

@@ -41,7 +41,6 @@ fn is_nearer<R: Record>(found: Option<R>, key: u64, best: Option<R>) -> bool
 pub(crate) fn next_held<R: Record>(slots: &Slots<'_, R>, place: u64) -> Option<Visit<R>>
     ensures { Visited (λ p. held (drop p slots.now)) place result }
 {
-    // Over `slots.get(place as usize..)?.iter().enumerate()` it proves, but a walk over slots 90 of 100 full takes 7 parts in 100 longer.
     for at in place..slots.len() as u64 {
         if let Some(record) = slots.get(at as usize) {
             return Some(Visit {

@@ -3,7 +3,6 @@ pub mod Digits
 pub mod Reading
 pub mod Scanning
 pub mod Writing
-pub mod Steps
 pub mod Sound
 pub mod Padding
 pub mod Spelling

@@ -6,8 +6,9 @@ use Rattle.std.proofs.KnownBytes.{Appends-nil, Appends-trans}
 use Rattle.capture.specs.Counts.{more}
 use Rattle.capture.specs.Lines.{lines_of}
 use Rattle.day_rules.specs.Days.{Day}
+use Rattle.day_forms.specs.Texts.{numbered_line}
 use Rattle.ledger_calls.specs.Replies.{said_to, day_left}
-use Rattle.ledger_calls.specs.Runs.{numbered, said_on}
+use Rattle.ledger_calls.specs.Runs.{said_on}
 use Rattle.ledger_calls.specs.Texts.{said_text}
 
 -- so many lines are answered, and these bytes are to come
@@ -24,10 +25,10 @@ saying_starts (Some xs) was n first = record { rest = xs; left = refl; printed =
 
 module _ (coming was is : Option (List ℕ)) (bytes : List ℕ) (from n : ℕ) (first now : Day) (p : Saying coming was is bytes from n first now) where
   pub saying_on : (later is' : Option (List ℕ)) (line : List ℕ) → lines_of p.rest ≡ line ∷ lines_of (drop_through 10 p.rest)
-      → later ≡ Some (drop_through 10 p.rest) → Appends is is' (numbered (more n) (said_text (said_to line now)))
+      → later ≡ Some (drop_through 10 p.rest) → Appends is is' (numbered_line (more n) (said_text (said_to line now)))
       → Saying later was is' bytes from (more n) first (day_left line now)
   saying_on later is' line cut left printed =
-      let said = numbered (more n) (said_text (said_to line now)) in
+      let said = numbered_line (more n) (said_text (said_to line now)) in
       let others = said_on (more n) (lines_of (drop_through 10 p.rest)) (day_left line now) in record {
         rest = drop_through 10 p.rest;
         left = left;

@@ -1,20 +1,17 @@
 -- What the program prints.
-use Rattle.std.specs.Prelude.{ℕ, List, [], ◌∷◌, ◌++◌, Some, None, Option, codes, decimal}
+use Rattle.std.specs.Prelude.{ℕ, List, [], ◌∷◌, ◌++◌, Some, None, Option, codes}
 use Rattle.capture.specs.Counts.{more}
 use Rattle.day_rules.specs.Days.{Day, opened}
+use Rattle.day_forms.specs.Texts.{numbered_line}
 use Rattle.ledger_calls.specs.declared.opening.Opening.{Opening}
 use Rattle.ledger_calls.specs.Openings.{opening_of}
 use Rattle.ledger_calls.specs.Replies.{said_to, day_left}
 use Rattle.ledger_calls.specs.Texts.{said_text, opening_text}
 
--- a text behind the number of its line
-abbrev pub numbered : ℕ → List ℕ → List ℕ
-numbered number text = codes "(line " ++ (decimal number ++ (codes " " ++ (text ++ (codes ")" ++ (10 ∷ [])))))
-
 -- what is said to lines one after the other, where so many came before
 abbrev pub said_on : ℕ → List (List ℕ) → Day → List ℕ
 said_on n [] d = []
-said_on n (line ∷ lines) d = numbered (more n) (said_text (said_to line d)) ++ said_on (more n) lines (day_left line d)
+said_on n (line ∷ lines) d = numbered_line (more n) (said_text (said_to line d)) ++ said_on (more n) lines (day_left line d)
 
 -- the day of a ledger that was opened
 abbrev pub day_opened : Opening → Day
@@ -22,8 +19,8 @@ day_opened o = opened o.orders o.executions o.symbols o.day_limit
 
 -- what is printed of the first line, and of the others where it opens a ledger
 abbrev pub opened_text : Option Opening → List (List ℕ) → List ℕ
-opened_text None lines = numbered 1 (codes "(no ledger)")
-opened_text (Some o) lines = numbered 1 (opening_text o) ++ said_on 1 lines (day_opened o)
+opened_text None lines = numbered_line 1 (codes "(no ledger)")
+opened_text (Some o) lines = numbered_line 1 (opening_text o) ++ said_on 1 lines (day_opened o)
 
 abbrev pub run_text : List (List ℕ) → List ℕ
 run_text [] = []

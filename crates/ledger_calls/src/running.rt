@@ -3,8 +3,9 @@ ghost use Rattle.std.specs.Prelude.{◌≡◌, IfSome, OnOk};
 ghost use Rattle.std.specs.Io.KnownBytes.{Appends};
 ghost use Rattle.capture.specs.Held.{held};
 ghost use Rattle.capture.specs.Lines.{lines_of};
+ghost use Rattle.day_forms.specs.Texts.{numbered_line};
 ghost use Rattle.ledger_calls.specs.Replies.{said_to, day_left};
-ghost use Rattle.ledger_calls.specs.Runs.{numbered, said_on, day_opened, opened_text, run_text};
+ghost use Rattle.ledger_calls.specs.Runs.{said_on, day_opened, opened_text, run_text};
 ghost use Rattle.ledger_calls.specs.Texts.{said_text};
 
 use crate::asking::say;
@@ -110,7 +111,7 @@ fn answer_line<W: Write, O: Store<Order>, E: Store<Execution>, S: Store<SymbolRo
     output: &mut W,
 ) -> io::Result<()>
     ensures leaves { ledger.new ≡ day_left (held line.now) ledger.old }
-    ensures says { OnOk result (Appends (W.contents output.old) (W.contents output.new) (numbered number (said_text (said_to (held line.now) ledger.old)))) }
+    ensures says { OnOk result (Appends (W.contents output.old) (W.contents output.new) (numbered_line number (said_text (said_to (held line.now) ledger.old)))) }
 {
     let said = say(ledger, line.line());
     show(output, number, &said)
@@ -118,7 +119,7 @@ fn answer_line<W: Write, O: Store<Order>, E: Store<Execution>, S: Store<SymbolRo
 
 // Prints what is said to a line, behind the line's number.
 fn show<W: Write, D: fmt::Display>(output: &mut W, number: u64, form: &D) -> io::Result<()>
-    ensures { OnOk result (IfSome (D.output form.now) (λ text. Appends (W.contents output.old) (W.contents output.new) (numbered number text))) }
+    ensures { OnOk result (IfSome (D.output form.now) (λ text. Appends (W.contents output.old) (W.contents output.new) (numbered_line number text))) }
 {
     writeln!(output, "{}", Numbered { number, form })
 }

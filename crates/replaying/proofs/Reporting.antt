@@ -2,12 +2,13 @@
 use Rattle.std.proofs.Common.{◌≡◌, ℕ, List, ◌++◌, length, Ok, Err, Option, Some, None, Result, OnOk, IfSome, ap, subst, ◌∙◌}
 use Rattle.std.specs.Io.KnownBytes.{Appends}
 use Rattle.std.proofs.KnownBytes.{Appends-trans}
+use Rattle.capture.specs.Counts.{at_most}
 use Rattle.capture.specs.Lines.{lines_of}
 use Rattle.day_rules.specs.Days.{Day}
 use Rattle.day_rules.specs.Lines.{day_after, answers_to}
 use Rattle.day_rules.specs.Questions.{rows_in}
 use Rattle.day_lines.specs.declared.seen.Seen.{Seen}
-use Rattle.day_lines.specs.Seen.{at_most, IsSeen}
+use Rattle.day_lines.specs.Seen.{IsSeen}
 use Rattle.day_lines.specs.Texts.{answers_text}
 use Rattle.day_lines.proofs.Places.{all_rows}
 use Rattle.options.specs.declared.options.Options.{Options}

@@ -1,6 +1,6 @@
 -- The slots for so many hashed records.
 use Rattle.std.specs.Prelude.{ℕ, ◌+◌, ◌/◌}
-use Rattle.day_lines.specs.Seen.{at_most}
+use Rattle.capture.specs.Counts.{at_most}
 
 -- a third more
 abbrev pub slots_for : ℕ → ℕ

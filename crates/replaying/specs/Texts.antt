@@ -1,5 +1,6 @@
 -- What a replay prints for an input.
 use Rattle.std.specs.Prelude.{ℕ, ◌+◌, true, cond, List, [], ◌∷◌, ◌++◌, length, Some, None, Option, Result, ◌==◌}
+use Rattle.capture.specs.Counts.{at_most}
 use Rattle.capture.specs.Lines.{lines_of}
 use Rattle.messages.specs.declared.code.Side.{Side}
 use Rattle.messages.specs.declared.code.Side.TheVariants.{Buy, Sell}
@@ -10,7 +11,7 @@ use Rattle.day_rules.specs.declared.outcome.Outcome.{Outcome}
 use Rattle.day_rules.specs.Days.{Day, opened}
 use Rattle.day_rules.specs.Lines.{day_after, answers_to}
 use Rattle.day_rules.specs.Questions.{book_in, market_in, rows_in}
-use Rattle.day_lines.specs.Seen.{at_most, times_from}
+use Rattle.day_lines.specs.Seen.{times_from}
 use Rattle.day_lines.specs.Texts.{in_line, answers_text, rows_text}
 use Rattle.options.specs.declared.options.Options.{Options}
 use Rattle.options.specs.declared.options.Shown.{Shown}

@@ -1,5 +1,5 @@
 // Filling a line's buffer, reading it and emptying it.
-ghost use Rattle.std.specs.Prelude.{◌≡◌, ◌+◌, ◌≤◌, [], ◌∷◌, ◌++◌, length, take, ◌==◌};
+ghost use Rattle.std.specs.Prelude.{◌≡◌, ◌+◌, ◌≤◌, [], ◌++◌, length, take, ◌==◌};
 ghost use Rattle.capture.specs.Held.{held};
 
 use crate::buffer::LineBuffer;
@@ -12,13 +12,6 @@ impl LineBuffer {
             bytes: [0; 255],
             len: 0,
         }
-    }
-
-    // Adds a byte to the line; one beyond 255 is let go.
-    pub fn push(&mut self, byte: u8)
-        ensures { held self.new ≡ take 255 (held self.old ++ byte ∷ []) }
-    {
-        self.extend(&[byte]);
     }
 
     // Adds a piece to the line; what of it goes beyond 255 bytes is let go.

@@ -6,7 +6,7 @@ use Rattle.capture.specs.Held.{held}
 use Rattle.capture.specs.Lines.{lines_of}
 use Rattle.capture.proofs.Reading.{known-weaker, known-at}
 use Rattle.ledger_calls.specs.Replies.{said_to}
-use Rattle.ledger_calls.specs.Runs.{numbered}
+use Rattle.day_forms.specs.Texts.{numbered_line}
 use Rattle.ledger_calls.specs.Texts.{said_text}
 use Rattle.ledger_calls.proofs.Saying.{Saying, saying_starts, saying_on}
 use Rattle.ledger_calls.proofs.running.answer_lines.Goals as goal
@@ -25,7 +25,7 @@ loop-preserved g c =
     let is = g.W.Write.contents c.answer_line.new.output in
     let n = c.loop.count.lines in
     let first = c.args.count.lines in
-    let printed = subst (λ k. Appends (g.W.Write.contents c.loop.output) is (numbered k (said_text (said_to line c.loop.ledger)))) c.next.ensures.says c.in_ok-answer_line.ensures.says in
+    let printed = subst (λ k. Appends (g.W.Write.contents c.loop.output) is (numbered_line k (said_text (said_to line c.loop.ledger)))) c.next.ensures.says c.in_ok-answer_line.ensures.says in
     known-weaker (g.R.Read.remaining c.args.input.now) _ _ (λ bytes p.
     let on = saying_on here was (g.W.Write.contents c.loop.output) bytes first n c.args.ledger.now c.loop.ledger p later is line
     (known-at here p.rest _ p.left lines) (known-at here p.rest _ p.left c.in_ok-next_line.ensures.rest) printed in
