@@ -71,9 +71,6 @@ pub record Cutting (shown : Bool) (begun piece now rest : List ℕ) (was is : Op
   pub cut : (more : List ℕ) → lines_of (begun ++ (piece ++ more)) ≡ lines ++ lines_of (now ++ (rest ++ more))
   pub unended : Unended now
 
-pub cutting_starts : (shown : Bool) (begun piece : List ℕ) (was : Option (List ℕ)) (s : Seen) (d : Day) → Unended begun → Cutting shown begun piece begun piece was was s s d d
-cutting_starts shown begun piece was s d none = record { lines = []; taken = taken_none shown was s d; cut = λ more. refl; unended = none }
-
 module _ (shown : Bool) (begun piece now rest : List ℕ) (was is : Option (List ℕ)) (s t : Seen) (d e : Day) (c : Cutting shown begun piece now rest was is s t d e) where
   -- a line ends
   pub cutting_on : (line cleared next : List ℕ) (is' : Option (List ℕ)) (u : Seen) (f : Day) → Some next ≡ after_end rest → line ≡ take 255 (now ++ before_end rest) → cleared ≡ []
