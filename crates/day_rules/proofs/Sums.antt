@@ -22,14 +22,10 @@ module _ {X : Type 0} (w : X → ℕ) where
   sum-most b [] h = omega arith
   sum-most b (x ∷ xs) h = let a = h.0 in let r = sum-most b xs h.1 in omega arith
 
-  -- of those that a test picks, and of the others
+  -- of those that a test picks
   pub sum-those : (p : X → Bool) (xs : List X) → sum w (those p xs) ≡ sum (λ x. cond (p x) (w x) 0) xs
   sum-those p [] = refl
   sum-those p (x ∷ xs) = grind (arith, nat_tests, sum-those p xs)
-
-  pub sum-others : (p : X → Bool) (xs : List X) → sum w (others p xs) + sum w (those p xs) ≡ sum w xs
-  sum-others p [] = refl
-  sum-others p (x ∷ xs) = grind (arith, nat_tests, sum-others p xs)
 
   -- of two things that each record gives
   pub sum-both : (v : X → ℕ) (xs : List X) → sum (λ x. w x + v x) xs ≡ sum w xs + sum v xs

@@ -46,21 +46,13 @@ module _ {X : Type 0} (key : X → ℕ) where
   from_past k [] back l = refl
   from_past k (x ∷ front) back l = rw (lt-leb k (key x) l.0) (from_past k front back l.1)
 
-  pub from-lower : (k : ℕ) (xs : List X) → Lower key k xs → first_from key k xs ≡ None
-  from-lower k [] l = refl
-  from-lower k (x ∷ xs) l = rw (lt-leb k (key x) l.0) (from-lower k xs l.1)
-
   pub from_at : (k : ℕ) (front : List X) (x : X) (back : List X) → Lower key k front → k ≤ key x → first_from key k (front ++ (x ∷ back)) ≡ Some x
   from_at k front x back l u = from_past k front (x ∷ back) l ∙ rw (le-leb k (key x) u) refl
 
-  -- parts of rising lists rise
+  -- the back of a rising list rises
   pub rising-back : (front back : List X) → Rising key (front ++ back) → Rising key back
   rising-back [] back h = h
   rising-back (x ∷ front) back h = rising-back front back h.1
-
-  pub rising-front : (front back : List X) → Rising key (front ++ back) → Rising key front
-  rising-front [] back h = tt
-  rising-front (x ∷ front) back h = (each-front (λ y. key x < key y) front back h.0, rising-front front back h.1)
 
   -- the keys in front of a record are below its own, and those behind above
   pub lower-front : (front : List X) (x : X) (back : List X) → Rising key (front ++ (x ∷ back)) → Lower key (key x) front
