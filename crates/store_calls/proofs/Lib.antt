@@ -1,1 +1,1 @@
-mod Saying
+pub mod Saying

@@ -1,5 +1,5 @@
 // Opening a store over new memory.
-ghost use Rattle.std.specs.Prelude.{◌≡◌, Some, IfOk};
+ghost use Rattle.std.specs.Prelude.{Some, IfOk};
 ghost use Rattle.store.specs.Models.{emptied};
 ghost use Rattle.store_calls.specs.Runs.{stored_over, begun_text, opening_text};
 ghost use Rattle.store_calls.specs.Sessions.{Says};
@@ -62,6 +62,6 @@ fn open_over<R: BufRead, W: Write, S: Store<Order> + Drop>(
     if front {
         serve(opened(below), count, input, output)
     } else {
-        serve(Plain::new(below), count, input, output)
+        serve(Plain(below), count, input, output)
     }
 }

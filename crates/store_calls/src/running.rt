@@ -1,5 +1,5 @@
 // From the first line to the last.
-ghost use Rattle.std.specs.Prelude.{◌≡◌, IfSome, OnOk};
+ghost use Rattle.std.specs.Prelude.{IfSome, OnOk};
 ghost use Rattle.std.specs.Io.KnownBytes.{Appends};
 ghost use Rattle.capture.specs.Lines.{lines_of};
 ghost use Rattle.store_calls.specs.Runs.{opening_text, run_text};

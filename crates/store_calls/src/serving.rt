@@ -1,6 +1,5 @@
 // Answering lines, until one opens another store.
-ghost use Rattle.std.specs.Prelude.{◌≡◌, IfOk};
-ghost use Rattle.capture.specs.Counts.{more};
+ghost use Rattle.std.specs.Prelude.{IfOk};
 ghost use Rattle.store_calls.specs.Runs.{said_on, line_text, opening_text, going_on};
 ghost use Rattle.store_calls.specs.Sessions.{Says, Prints};
 
