@@ -1,5 +1,5 @@
--- What is answered to a call, and what the store is after it.
-use Rattle.std.specs.Prelude.{ℕ, Bool, true, false, length, Some, None, Ok, Err, Option, Result}
+-- What is answered to a call, and what is held and stands in front after it.
+use Rattle.std.specs.Prelude.{ℕ, Bool, true, false, List, length, is_some, Some, None, Ok, Err, Option, Result, option_map}
 use Rattle.messages.specs.declared.code.Display.TheVariants.{Quoted}
 use Rattle.messages.specs.declared.code.Side.TheVariants.{Buy}
 use Rattle.records.specs.declared.order.Order.{Order}
@@ -10,10 +10,16 @@ use Rattle.store.specs.declared.refusal.ReplaceRefusal.TheVariants as replace_re
 use Rattle.store.specs.Lists.{lookup, first_from}
 use Rattle.store.specs.Models.{Model, insert_says, inserted, replace_says, replacing, removing, emptied}
 use Rattle.records.specs.Keys.{order_key}
+use Rattle.front_row.specs.Fronts.{standing, taken, unfronted, cleared}
 use Rattle.calls.specs.declared.call.Call.{Call}
 use Rattle.calls.specs.declared.call.Call.TheVariants.{Insert, Find, From, Replace, Remove, Stands, Count, Limit, Empty}
 use Rattle.calls.specs.declared.reply.Reply.{Reply}
-use Rattle.calls.specs.declared.reply.Reply.TheVariants.{Done, Taken, Full, Missing, Found, Nothing, Counted, Limited, Standing, Absent, NoFront}
+use Rattle.calls.specs.declared.reply.Reply.TheVariants.{Done, Taken, Full, Missing, Found, Nothing, Counted, Limited, Standing, Absent, NoFront, NoneOpen}
+
+-- what a store holds, and the places in front of it where it has a front
+pub record Stored : Type 0 where
+  pub model : Model Order
+  pub front : Option (List (Option Order))
 
 -- the order of a call: the fields that it does not give are always the same
 abbrev pub order_of : ℕ → ℕ → Order
@@ -38,19 +44,28 @@ front_reply (Some true) = Standing
 front_reply (Some false) = Absent
 front_reply None = NoFront
 
--- what is answered, where the front says of a key whether it stands
-abbrev pub reply_of : (ℕ → Option Bool) → Call → Model Order → Reply
-reply_of front (Insert k n) m = insert_reply (insert_says order_key (order_of k n) m)
-reply_of front (Find k) m = found_reply (lookup order_key k m.rows)
-reply_of front (From k) m = found_reply (first_from order_key k m.rows)
-reply_of front (Replace k n) m = replace_reply (replace_says order_key (order_of k n) m)
-reply_of front (Remove k) m = found_reply (lookup order_key k m.rows)
-reply_of front (Stands k) m = front_reply (front k)
-reply_of front Count m = Counted (length m.rows)
-reply_of front Limit m = Limited m.limit
-reply_of front Empty m = Done
+-- whether a key stands in front
+abbrev pub stands : ℕ → List (Option Order) → Bool
+stands k places = is_some (standing places k)
 
--- what the store is afterwards: questions leave it as it was
+-- what a store answers
+abbrev pub reply_of : Call → Stored → Reply
+reply_of (Insert k n) s = insert_reply (insert_says order_key (order_of k n) s.model)
+reply_of (Find k) s = found_reply (lookup order_key k s.model.rows)
+reply_of (From k) s = found_reply (first_from order_key k s.model.rows)
+reply_of (Replace k n) s = replace_reply (replace_says order_key (order_of k n) s.model)
+reply_of (Remove k) s = found_reply (lookup order_key k s.model.rows)
+reply_of (Stands k) s = front_reply (option_map (stands k) s.front)
+reply_of Count s = Counted (length s.model.rows)
+reply_of Limit s = Limited s.model.limit
+reply_of Empty s = Done
+
+-- what is answered, where no store need be open
+abbrev pub reply_to : Call → Option Stored → Reply
+reply_to call None = NoneOpen
+reply_to call (Some s) = reply_of call s
+
+-- what the store holds afterwards: questions leave it as it was
 abbrev pub model_after : Call → Model Order → Model Order
 model_after (Insert k n) m = inserted order_key (order_of k n) m
 model_after (Find k) m = m
@@ -61,3 +76,18 @@ model_after (Stands k) m = m
 model_after Count m = m
 model_after Limit m = m
 model_after Empty m = emptied m
+
+-- what stands in front afterwards, where the store held this before
+abbrev pub front_after : Call → Model Order → List (Option Order) → List (Option Order)
+front_after (Insert k n) m places = taken (insert_says order_key (order_of k n) m) (order_of k n) places
+front_after (Find k) m places = places
+front_after (From k) m places = places
+front_after (Replace k n) m places = taken (replace_says order_key (order_of k n) m) (order_of k n) places
+front_after (Remove k) m places = unfronted k places
+front_after (Stands k) m places = places
+front_after Count m places = places
+front_after Limit m places = places
+front_after Empty m places = cleared
+
+abbrev pub stored_after : Call → Stored → Stored
+stored_after call s = record { model = model_after call s.model; front = option_map (front_after call s.model) s.front }

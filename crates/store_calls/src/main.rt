@@ -4,7 +4,7 @@
 mod opening;
 mod running;
 mod serving;
-mod session;
+mod showing;
 #[cfg(test)]
 mod tests;
 

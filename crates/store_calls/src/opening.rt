@@ -1,73 +1,67 @@
 // Opening a store over new memory.
-ghost use Rattle.std.specs.Prelude.{◌≡◌};
+ghost use Rattle.std.specs.Prelude.{Some, IfOk};
 ghost use Rattle.store.specs.Models.{emptied};
+ghost use Rattle.store_calls.specs.Runs.{stored_over, begun_text, opening_text};
+ghost use Rattle.store_calls.specs.Sessions.{Says};
 
 use crate::serving::serve;
-use crate::session::Session;
-use calls::answer::answer;
+use crate::showing::show;
+use calls::answers::plain::Plain;
 use calls::call::Opening;
-use calls::fronted::Fronted;
 use calls::reply::Reply;
+use capture::count::LineCount;
 use front_row::open::opened;
 use hashed_store::hashed::HashedStore;
 use records::order::Order;
 use row_store::row::RowStore;
+use std::alloc::Global;
 use std::io;
 use std::io::{BufRead, Write};
 use store::store::Store;
 use words::kind::Kind;
 
 // Opens the store, and answers lines from it until one opens another: that one, or none at the end of the input.
-pub fn open<R: BufRead, W: Write>(
-    session: &mut Session<'_, R, W>,
+pub(crate) fn open<R: BufRead, W: Write>(
+    heap: Global,
     opening: Opening,
-) -> io::Result<Option<Opening>> {
+    count: &mut LineCount,
+    input: &mut R,
+    output: &mut W,
+) -> io::Result<Option<Opening>>
+    ensures { IfOk result (λ next. Says (R.remaining input.old) (R.remaining input.new) (W.contents output.old) (W.contents output.new) (opening_text (Some opening) count.old.lines) (opening_text next count.new.lines)) }
+{
     // An arm each: a store borrows its memory, which is of another type in each.
     match opening.kind {
         Kind::Row => {
-            let mut rows = vec![in session.heap; Order::BLANK; opening.limit as usize]?;
-            open_over(session, opening.front, RowStore::new(rows.as_mut_slice()))
+            let mut rows = vec![in heap; Order::BLANK; opening.limit as usize]?;
+            let below = RowStore::new(rows.as_mut_slice());
+            open_over(below, opening.front, count, input, output)
         }
         Kind::Hashed => {
             // Not 0: the store empties its memory, whatever that holds.
-            let mut tags = vec![in session.heap; 255u8; opening.limit as usize]?;
-            let mut rows = vec![in session.heap; Order::BLANK; opening.limit as usize]?;
-            open_over(
-                session,
-                opening.front,
-                HashedStore::new(tags.as_mut_slice(), rows.as_mut_slice()),
-            )
+            let mut tags = vec![in heap; 255u8; opening.limit as usize]?;
+            let mut rows = vec![in heap; Order::BLANK; opening.limit as usize]?;
+            let below = HashedStore::new(tags.as_mut_slice(), rows.as_mut_slice());
+            open_over(below, opening.front, count, input, output)
         }
     }
 }
 
-// Behind a front, or plain.
-fn open_over<R: BufRead, W: Write, S: Store<Order> + Fronted + Drop>(
-    session: &mut Session<'_, R, W>,
+// Empties the store, and serves it behind a front, or plain.
+fn open_over<R: BufRead, W: Write, S: Store<Order> + Drop>(
+    mut below: S,
     front: bool,
-    below: S,
-) -> io::Result<Option<Opening>> {
-    if front {
-        serve_new(session, opened(below))
-    } else {
-        serve_new(session, ready(below))
-    }
-}
-
-fn serve_new<R: BufRead, W: Write, S: Store<Order> + Fronted + Drop>(
-    session: &mut Session<'_, R, W>,
-    mut store: S,
+    count: &mut LineCount,
+    input: &mut R,
+    output: &mut W,
 ) -> io::Result<Option<Opening>>
-    requires { S.Store.ready store }
+    ensures { IfOk result (λ next. Says (R.remaining input.old) (R.remaining input.new) (W.contents output.old) (W.contents output.new) (begun_text count.old.lines (stored_over front (emptied (S.Store.model below)))) (opening_text next count.new.lines)) }
 {
-    session.reply(Reply::Opened(store.limit()))?;
-    serve(session, |call| answer(&mut store, call))
-}
-
-fn ready<S: Store<Order>>(mut store: S) -> S
-    ensures leaves { S.Store.model result ≡ emptied (S.Store.model store) }
-    ensures ready { S.Store.ready result }
-{
-    store.empty();
-    store
+    below.empty();
+    show(Reply::Opened(below.limit()), count, output)?;
+    if front {
+        serve(opened(below), count, input, output)
+    } else {
+        serve(Plain(below), count, input, output)
+    }
 }
