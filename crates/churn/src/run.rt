@@ -1,24 +1,31 @@
 // From the arguments to what is printed.
+ghost use Rattle.std.specs.Prelude.{◌≡◌};
+ghost use Rattle.std.specs.Mem.{FitsInMemory};
+ghost use Rattle.churn.specs.Arguments.{chosen};
+
 use crate::arguments::{Arguments, read};
 use crate::counts::Counts;
 use crate::even::Even;
 use crate::feed::Feed;
-use crate::kind::{KINDS, Kind};
 use crate::load::{LOADS, Load};
 use crate::mistake::Failure;
+use crate::stores::{STORES, store_name};
 use crate::watch::Watch;
 use front_row::front_row::FrontRow;
 use hashed_store::hashed::HashedStore;
+use options::options::Stores;
 use records::order::Order;
 use row_store::row::RowStore;
 use std::io;
 use std::io::Write;
 use std::rt::Stdout;
+use std::slice::from_ref;
 use store::store::Store;
 use store::sweep::remove_picked;
 use store::walk::walk;
 use tally::sum::Counting;
 use words::arguments::bytes_of;
+use words::kind::Kind;
 use words::named::Named;
 
 // A million calls.
@@ -49,30 +56,40 @@ fn run_asked(rt: &HostRuntime, asked: Arguments) -> io::Result<()> {
         asked: &asked,
         live: live.as_mut_slice(),
     };
-    for kind in KINDS {
-        if asked.names(kind) {
-            bench.run_kind(kind)?;
-        }
+    for store in chosen(&asked.store, &STORES) {
+        bench.run_store(*store)?;
     }
     Ok(())
 }
 
+// The one that is asked for, or all where none is.
+fn chosen<'a, T>(one: &'a Option<T>, all: &'a [T]) -> &'a [T]
+    requires { FitsInMemory T.row }
+    ensures { result.now ≡ chosen one.now all.now }
+{
+    match one {
+        Some(one) => from_ref(one),
+        None => all,
+    }
+}
+
 impl<'a> Bench<'a> {
     // Lends new memory to a store.
-    fn run_kind(&mut self, kind: Kind) -> io::Result<()> {
-        writeln!(self.output, "(store {kind})")?;
+    fn run_store(&mut self, store: Stores) -> io::Result<()> {
+        let name = store_name(store);
+        writeln!(self.output, "(store {name})")?;
         let slots = self.asked.sizes.slots;
         // An arm for each sort of memory, since a store borrows it. `store_calls` has the same two, and does something else over the stores.
-        match kind {
-            Kind::Row | Kind::FrontRow => {
+        match store.kind {
+            Kind::Row => {
                 let mut rows = vec![in self.rt.alloc(); Order::BLANK; slots]?;
-                self.run_over(kind, RowStore::new(rows.as_mut_slice()))?;
+                self.run_over(store.front, RowStore::new(rows.as_mut_slice()))?;
             }
-            Kind::Hashed | Kind::FrontHashed => {
+            Kind::Hashed => {
                 let mut tags = vec![in self.rt.alloc(); 0u8; slots]?;
                 let mut rows = vec![in self.rt.alloc(); Order::BLANK; slots]?;
                 self.run_over(
-                    kind,
+                    store.front,
                     HashedStore::new(tags.as_mut_slice(), rows.as_mut_slice()),
                 )?;
             }
@@ -81,8 +98,8 @@ impl<'a> Bench<'a> {
     }
 
     // Behind a front, or plain.
-    fn run_over<S: Store<Order> + Drop>(&mut self, kind: Kind, below: S) -> io::Result<()> {
-        if kind.has_front() {
+    fn run_over<S: Store<Order> + Drop>(&mut self, front: bool, below: S) -> io::Result<()> {
+        if front {
             self.run_loads(FrontRow::new(below))
         } else {
             self.run_loads(below)
@@ -90,10 +107,8 @@ impl<'a> Bench<'a> {
     }
 
     fn run_loads<S: Store<Order> + Drop>(&mut self, mut store: S) -> io::Result<()> {
-        for load in LOADS {
-            if self.asked.takes(load) {
-                self.run_load(load, &mut store)?;
-            }
+        for load in chosen(&self.asked.load, &LOADS) {
+            self.run_load(*load, &mut store)?;
         }
         Ok(())
     }

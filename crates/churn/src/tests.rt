@@ -1,10 +1,11 @@
 // Words that are wrong, and those of every word that is right.
 use crate::arguments::{Arguments, Sizes, read};
-use crate::kind::Kind;
 use crate::load::Load;
 use crate::mistake::Mistake;
+use options::options::Stores;
 use std::process::Abort;
 use std::test::Fail;
+use words::kind::Kind;
 
 fn mistakes(rt: &impl Abort, words: &[&[u8]], mistake: Mistake<'_>) {
     assert!(rt; read(words) == Err(mistake));
@@ -53,7 +54,10 @@ fn words_are_five_or_six(rt: HostRuntime) -> Result<(), Fail> {
 fn all_names_are_known(rt: HostRuntime) -> Result<(), Fail> {
     let words: [&[u8]; 6] = [b"front-hashed", b"queue", b"3", b"2", b"1", b"time"];
     let asked = Arguments {
-        store: Some(Kind::FrontHashed),
+        store: Some(Stores {
+            kind: Kind::Hashed,
+            front: true,
+        }),
         load: Some(Load::Queue),
         sizes: Sizes {
             slots: 3,
