@@ -1,8 +1,11 @@
 -- What the words of a command line ask for, or what is said of the first that is wrong.
 use Rattle.std.specs.Prelude.{◌≡◌, ℕ, Bool, true, false, cond, List, [], ◌∷◌, Some, None, Option, Ok, Err, Result, MatchResult, codes, option_map}
 use Rattle.std.specs.Str.{bytes_eq}
+use Rattle.options.specs.declared.options.Stores.{Stores}
 use Rattle.words.specs.Numbers.{number_of}
 use Rattle.churn.specs.declared.arguments.Arguments.{Arguments}
+use Rattle.churn.specs.declared.arguments.Sizes.{Sizes}
+use Rattle.churn.specs.declared.load.Load.{Load}
 use Rattle.churn.specs.declared.mistake.Mistake.{Mistake}
 use Rattle.churn.specs.Complaints.{count_text, store_text, load_text, size_text, last_text, mistake_text}
 use Rattle.churn.specs.Names.{store_meant, load_meant}
@@ -26,8 +29,21 @@ abbrev pub and_then : {X Y : Type 0} → Result X (List ℕ) → (X → Result Y
 and_then (Ok x) next = next x
 and_then (Err text) next = Err text
 
+unfoldable pub store_asked : List ℕ → Result (Option Stores) (List ℕ)
+store_asked w = or_told (all_or w (store_meant w)) (store_text w)
+
+unfoldable pub load_asked : List ℕ → Result (Option Load) (List ℕ)
+load_asked w = or_told (all_or w (load_meant w)) (load_text w)
+
 abbrev pub size_asked : List ℕ → Result ℕ (List ℕ)
 size_asked w = or_told (number_of w) (size_text w)
+
+unfoldable pub sizes_asked : (slots live pairs : List ℕ) → Result Sizes (List ℕ)
+sizes_asked slots live pairs =
+    and_then (size_asked slots) (λ slots.
+    and_then (size_asked live) (λ live.
+    and_then (size_asked pairs) (λ pairs.
+    Ok (record { slots = slots; live = live; pairs = pairs }))))
 
 -- whether times are asked for, by a word behind the others
 abbrev pub timed_by : List (List ℕ) → Result Bool (List ℕ)
@@ -36,13 +52,11 @@ timed_by (w ∷ ws) = cond (bytes_eq w (codes "time")) (Ok true) (Err (last_text
 
 abbrev pub asked_by : (store load slots live pairs : List ℕ) → (last : List (List ℕ)) → Result Arguments (List ℕ)
 asked_by store load slots live pairs last =
-    and_then (or_told (all_or store (store_meant store)) (store_text store)) (λ store.
-    and_then (or_told (all_or load (load_meant load)) (load_text load)) (λ load.
-    and_then (size_asked slots) (λ slots.
-    and_then (size_asked live) (λ live.
-    and_then (size_asked pairs) (λ pairs.
+    and_then (store_asked store) (λ store.
+    and_then (load_asked load) (λ load.
+    and_then (sizes_asked slots live pairs) (λ sizes.
     and_then (timed_by last) (λ timed.
-    Ok (record { store = store; load = load; sizes = record { slots = slots; live = live; pairs = pairs }; timed = timed })))))))
+    Ok (record { store = store; load = load; sizes = sizes; timed = timed })))))
 
 -- five words, or one more
 abbrev pub arguments_of : List (List ℕ) → Result Arguments (List ℕ)

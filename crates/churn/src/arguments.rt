@@ -1,8 +1,6 @@
 // What the program is asked.
 ghost use Rattle.std.specs.Prelude.{◌≡◌, map};
-ghost use Rattle.churn.specs.Arguments.{Answers, all_or, arguments_of, or_told, size_asked, timed_by};
-ghost use Rattle.churn.specs.Complaints.{load_text, store_text};
-ghost use Rattle.churn.specs.Names.{load_meant, store_meant};
+ghost use Rattle.churn.specs.Arguments.{Answers, all_or, arguments_of, load_asked, size_asked, sizes_asked, store_asked, timed_by};
 
 use crate::load::{Load, load_of};
 use crate::mistake::Mistake;
@@ -34,25 +32,23 @@ pub fn read<'a>(words: &[&'a [u8]]) -> Result<Arguments, Mistake<'a>>
         [store, load, slots, live, pairs, last @ ..] if last.len() < 2 => Ok(Arguments {
             store: one_store(store)?,
             load: one_load(load)?,
-            sizes: Sizes {
-                slots: size(slots)? as usize,
-                live: size(live)? as usize,
-                pairs: size(pairs)?,
-            },
+            sizes: three_sizes(slots, live, pairs)?,
             timed: timed(last)?,
         }),
         _ => Err(Mistake::Count),
     }
 }
 
+#[tactic(auto, unfolding(crate::specs::Arguments::store_asked))]
 fn one_store<'a>(word: &'a [u8]) -> Result<Option<Stores>, Mistake<'a>>
-    ensures { Answers (or_told (all_or word.now (store_meant word.now)) (store_text word.now)) result }
+    ensures { Answers (store_asked word.now) result }
 {
     all_or(word, store_of(word)).ok_or(Mistake::Store(word))
 }
 
+#[tactic(auto, unfolding(crate::specs::Arguments::load_asked))]
 fn one_load<'a>(word: &'a [u8]) -> Result<Option<Load>, Mistake<'a>>
-    ensures { Answers (or_told (all_or word.now (load_meant word.now)) (load_text word.now)) result }
+    ensures { Answers (load_asked word.now) result }
 {
     all_or(word, load_of(word)).ok_or(Mistake::Load(word))
 }
@@ -65,6 +61,17 @@ fn all_or<T: Copy>(word: &[u8], one: Option<T>) -> Option<Option<T>>
         b"all" => Some(None),
         _ => Some(Some(one?)),
     }
+}
+
+#[tactic(auto, unfolding(crate::specs::Arguments::sizes_asked))]
+fn three_sizes<'a>(slots: &'a [u8], live: &'a [u8], pairs: &'a [u8]) -> Result<Sizes, Mistake<'a>>
+    ensures { Answers (sizes_asked slots.now live.now pairs.now) result }
+{
+    Ok(Sizes {
+        slots: size(slots)? as usize,
+        live: size(live)? as usize,
+        pairs: size(pairs)?,
+    })
 }
 
 fn size<'a>(word: &'a [u8]) -> Result<u64, Mistake<'a>>
