@@ -6,8 +6,9 @@ use Rattle.words.specs.Numbers.{number_of}
 use Rattle.churn.specs.declared.arguments.Arguments.{Arguments}
 use Rattle.churn.specs.declared.arguments.Sizes.{Sizes}
 use Rattle.churn.specs.declared.load.Load.{Load}
+use Rattle.churn.specs.declared.mistake.Failure.{Failure}
 use Rattle.churn.specs.declared.mistake.Mistake.{Mistake}
-use Rattle.churn.specs.Complaints.{count_text, store_text, load_text, size_text, last_text, mistake_text}
+use Rattle.churn.specs.Complaints.{count_text, store_text, load_text, size_text, last_text, mistake_text, FailsWith}
 use Rattle.churn.specs.Names.{store_meant, load_meant}
 
 -- the one that is asked for, or all where none is
@@ -67,3 +68,8 @@ arguments_of words = Err count_text
 -- it answers that, or a mistake of that text
 abbrev pub Answers : {X : Type 0} → Result X (List ℕ) → Result X Mistake → Type 0
 Answers told result = MatchResult result (λ x. told ≡ Ok x) (λ mistake. told ≡ Err (mistake_text mistake))
+
+-- words that are wrong are told
+abbrev pub Refuses : {X : Type 0} → Result Arguments (List ℕ) → Result X Failure → Type 0
+Refuses (Ok asked) result = Unit {0}
+Refuses (Err text) result = FailsWith text result

@@ -1,5 +1,5 @@
 -- What is wrong with the words, and why else nothing is run, or no more.
-use Rattle.std.specs.Prelude.{ℕ, List, ◌++◌, Some, None, Option, codes}
+use Rattle.std.specs.Prelude.{◌≡◌, ℕ, List, ◌++◌, Some, None, Option, Ok, Err, Result, codes}
 use Rattle.words.specs.Quotes.{quoted_text}
 use Rattle.churn.specs.declared.mistake.Mistake.{Mistake}
 use Rattle.churn.specs.declared.mistake.Mistake.TheVariants.{Count, Store, Load, Size, Last}
@@ -32,3 +32,9 @@ mistake_text (Last word) = last_text word.now
 abbrev pub failure_text : Failure → Option (List ℕ)
 failure_text (Words mistake) = Some (mistake_text mistake)
 failure_text (Other error) = None
+
+-- it fails with that text, or by another error
+abbrev pub FailsWith : {X : Type 0} → (text : List ℕ) → Result X Failure → Type 0
+FailsWith text (Ok x) = ⊥
+FailsWith text (Err (Words mistake)) = mistake_text mistake ≡ text
+FailsWith text (Err (Other error)) = Unit {0}

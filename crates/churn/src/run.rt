@@ -1,7 +1,7 @@
 // From the arguments to what is printed.
-ghost use Rattle.std.specs.Prelude.{◌≡◌};
+ghost use Rattle.std.specs.Prelude.{◌≡◌, map};
 ghost use Rattle.std.specs.Mem.{FitsInMemory};
-ghost use Rattle.churn.specs.Arguments.{chosen};
+ghost use Rattle.churn.specs.Arguments.{Refuses, arguments_of, chosen};
 
 use crate::arguments::{Arguments, read};
 use crate::counts::Counts;
@@ -42,7 +42,9 @@ struct Bench<'a> {
 }
 
 // Runs the load, or all of them, on the store, or on each.
-pub fn run<'a>(rt: &HostRuntime, words: &'a [Vec<u8>]) -> Result<(), Failure<'a>> {
+pub fn run<'a>(rt: &HostRuntime, words: &'a [Vec<u8>]) -> Result<(), Failure<'a>>
+    ensures { Refuses (arguments_of (map (λ word. word.items) words.now)) result }
+{
     let words = bytes_of(rt.alloc(), words)?;
     let asked = read(words.as_slice())?;
     Ok(run_asked(rt, asked)?)
@@ -86,7 +88,8 @@ impl<'a> Bench<'a> {
                 self.run_over(store.front, RowStore::new(rows.as_mut_slice()))?;
             }
             Kind::Hashed => {
-                let mut tags = vec![in self.rt.alloc(); 0u8; slots]?;
+                // Not 0: the store empties its memory, whatever that holds.
+                let mut tags = vec![in self.rt.alloc(); 255u8; slots]?;
                 let mut rows = vec![in self.rt.alloc(); Order::BLANK; slots]?;
                 self.run_over(
                     store.front,

@@ -1,5 +1,6 @@
-// Words that are wrong, and those of every word that is right.
+// Words that are wrong, and those of every word that is right; a load where no order lives.
 use crate::arguments::{Arguments, Sizes, read};
+use crate::feed::Feed;
 use crate::load::Load;
 use crate::mistake::Mistake;
 use options::options::Stores;
@@ -67,5 +68,12 @@ fn all_names_are_known(rt: HostRuntime) -> Result<(), Fail> {
         timed: true,
     };
     assert!(&rt; read(&words) == Ok(asked));
+    Ok(())
+}
+
+#[test]
+fn an_order_dies_at_once_where_none_lives(rt: HostRuntime) -> Result<(), Fail> {
+    let mut feed = Feed::new(Load::Queue);
+    assert!(&rt; feed.exchange(&mut [], 7) == 7);
     Ok(())
 }
