@@ -18,7 +18,6 @@ use records::order::Order;
 use row_store::row::RowStore;
 use std::io;
 use std::io::Write;
-use std::rt::Stdout;
 use std::slice::from_ref;
 use store::store::Store;
 use store::sweep::remove_picked;
@@ -33,9 +32,9 @@ const PART: u64 = 500_000;
 
 // What every part of a run goes by.
 #[derive(Drop)]
-struct Bench<'a> {
+struct Bench<'a, 'o, W> {
     rt: &'a HostRuntime,
-    output: Named<Stdout>,
+    output: &'o mut W,
     asked: &'a Arguments,
     // the IDs of the orders that live
     live: &'a mut [u64],
@@ -47,14 +46,15 @@ pub fn run<'a>(rt: &HostRuntime, words: &'a [Vec<u8>]) -> Result<(), Failure<'a>
 {
     let words = bytes_of(rt.alloc(), words)?;
     let asked = read(words.as_slice())?;
-    Ok(run_asked(rt, asked)?)
+    let mut output = Named::new("standard output", rt.alloc(), rt.stdout());
+    Ok(run_asked(rt, asked, &mut output)?)
 }
 
-fn run_asked(rt: &HostRuntime, asked: Arguments) -> io::Result<()> {
+pub fn run_asked<W: Write>(rt: &HostRuntime, asked: Arguments, output: &mut W) -> io::Result<()> {
     let mut live = vec![in rt.alloc(); 0u64; asked.sizes.live]?;
     let mut bench = Bench {
         rt,
-        output: Named::new("standard output", rt.alloc(), rt.stdout()),
+        output,
         asked: &asked,
         live: live.as_mut_slice(),
     };
@@ -75,7 +75,7 @@ fn chosen<'a, T>(one: &'a Option<T>, all: &'a [T]) -> &'a [T]
     }
 }
 
-impl<'a> Bench<'a> {
+impl<'a, 'o, W: Write> Bench<'a, 'o, W> {
     // Lends new memory to a store.
     fn run_store(&mut self, store: Stores) -> io::Result<()> {
         let name = store_name(store);
@@ -122,12 +122,12 @@ impl<'a> Bench<'a> {
         store.empty();
         let mut watch = Watch::new(self.rt, self.asked.timed)?;
         counts.fill(store, &mut feed, self.live);
-        watch.lap(self.rt, &mut self.output, "fill", self.live.len() as u64)?;
+        watch.lap(self.rt, self.output, "fill", self.live.len() as u64)?;
         let pairs = self.asked.sizes.pairs;
         for first in (0..pairs).step_by(PART as usize) {
             let part = PART.min(pairs - first);
             counts.churn(store, &mut feed, self.live, part);
-            watch.lap(self.rt, &mut self.output, "churn", part * 2)?;
+            watch.lap(self.rt, self.output, "churn", part * 2)?;
         }
         self.walk_and_sweep(store, &mut counts, &mut watch)?;
         writeln!(self.output, "({load} {counts})")
@@ -141,14 +141,14 @@ impl<'a> Bench<'a> {
         watch: &mut Watch,
     ) -> io::Result<()> {
         counts.met = walk(store, &Counting).number;
-        watch.lap(self.rt, &mut self.output, "walk", counts.met)?;
+        watch.lap(self.rt, self.output, "walk", counts.met)?;
         counts.swept = remove_picked(store, &Even, &Counting).number;
-        watch.lap(self.rt, &mut self.output, "sweep", counts.met)?;
+        watch.lap(self.rt, self.output, "sweep", counts.met)?;
         counts.kept = walk(store, &Counting).number;
-        watch.lap(self.rt, &mut self.output, "walk-kept", counts.kept)?;
+        watch.lap(self.rt, self.output, "walk-kept", counts.kept)?;
         store.empty();
-        watch.lap(self.rt, &mut self.output, "empty", 1)?;
+        watch.lap(self.rt, self.output, "empty", 1)?;
         counts.left = walk(store, &Counting).number;
-        watch.lap(self.rt, &mut self.output, "walk-emptied", counts.left)
+        watch.lap(self.rt, self.output, "walk-emptied", counts.left)
     }
 }
