@@ -88,8 +88,7 @@ impl<'a, 'o, W: Write> Bench<'a, 'o, W> {
                 self.run_over(store.front, RowStore::new(rows.as_mut_slice()))?;
             }
             Kind::Hashed => {
-                // Not 0: the store empties its memory, whatever that holds.
-                let mut tags = vec![in self.rt.alloc(); 255u8; slots]?;
+                let mut tags = vec![in self.rt.alloc(); 0u8; slots]?;
                 let mut rows = vec![in self.rt.alloc(); Order::BLANK; slots]?;
                 self.run_over(
                     store.front,
