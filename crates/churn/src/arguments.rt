@@ -1,7 +1,11 @@
 // What the program is asked.
-use crate::kind::{KINDS, Kind};
-use crate::load::{LOADS, Load};
+ghost use Rattle.std.specs.Prelude.{◌≡◌, map};
+ghost use Rattle.churn.specs.Arguments.{Answers, all_or, arguments_of, load_asked, size_asked, sizes_asked, store_asked, timed_by};
+
+use crate::load::{Load, load_of};
 use crate::mistake::Mistake;
+use crate::stores::store_of;
+use options::options::Stores;
 use words::number::number;
 
 #[derive(Clone, Copy, PartialEq, Eq, Debug)]
@@ -14,72 +18,71 @@ pub struct Sizes {
 #[derive(Clone, Copy, PartialEq, Eq, Debug)]
 pub struct Arguments {
     // none where all are asked for
-    pub store: Option<Kind>,
+    pub store: Option<Stores>,
     // likewise
     pub load: Option<Load>,
     pub sizes: Sizes,
     pub timed: bool,
 }
 
-impl Arguments {
-    // Whether loads are to be run on a store.
-    pub fn names(&self, kind: Kind) -> bool {
-        self.store.is_none() || self.store == Some(kind)
-    }
-
-    // Whether a load is to be run.
-    pub fn takes(&self, load: Load) -> bool {
-        self.load.is_none() || self.load == Some(load)
+pub fn read<'a>(words: &[&'a [u8]]) -> Result<Arguments, Mistake<'a>>
+    ensures { Answers (arguments_of (map (λ word. word.now) words.now)) result }
+{
+    match words {
+        [store, load, slots, live, pairs, last @ ..] if last.len() < 2 => Ok(Arguments {
+            store: one_store(store)?,
+            load: one_load(load)?,
+            sizes: three_sizes(slots, live, pairs)?,
+            timed: timed(last)?,
+        }),
+        _ => Err(Mistake::Count),
     }
 }
 
-pub fn read<'a>(words: &[&'a [u8]]) -> Result<Arguments, Mistake<'a>> {
-    if words.len() < 5 || words.len() > 6 {
-        return Err(Mistake::Count);
+#[tactic(auto, unfolding(crate::specs::Arguments::store_asked))]
+fn one_store<'a>(word: &'a [u8]) -> Result<Option<Stores>, Mistake<'a>>
+    ensures { Answers (store_asked word.now) result }
+{
+    all_or(word, store_of(word)).ok_or(Mistake::Store(word))
+}
+
+#[tactic(auto, unfolding(crate::specs::Arguments::load_asked))]
+fn one_load<'a>(word: &'a [u8]) -> Result<Option<Load>, Mistake<'a>>
+    ensures { Answers (load_asked word.now) result }
+{
+    all_or(word, load_of(word)).ok_or(Mistake::Load(word))
+}
+
+// None by name, if the word asks for all.
+fn all_or<T: Copy>(word: &[u8], one: Option<T>) -> Option<Option<T>>
+    ensures { result ≡ all_or word.now one }
+{
+    match word {
+        b"all" => Some(None),
+        _ => Some(Some(one?)),
     }
-    Ok(Arguments {
-        store: store(words[0])?,
-        load: load(words[1])?,
-        sizes: Sizes {
-            slots: size(words[2])? as usize,
-            live: size(words[3])? as usize,
-            pairs: size(words[4])?,
-        },
-        timed: timed(&words[5..])?,
+}
+
+#[tactic(auto, unfolding(crate::specs::Arguments::sizes_asked))]
+fn three_sizes<'a>(slots: &'a [u8], live: &'a [u8], pairs: &'a [u8]) -> Result<Sizes, Mistake<'a>>
+    ensures { Answers (sizes_asked slots.now live.now pairs.now) result }
+{
+    Ok(Sizes {
+        slots: size(slots)? as usize,
+        live: size(live)? as usize,
+        pairs: size(pairs)?,
     })
 }
 
-fn store<'a>(word: &'a [u8]) -> Result<Option<Kind>, Mistake<'a>> {
-    for kind in KINDS {
-        if word == kind.name().as_bytes() {
-            return Ok(Some(kind));
-        }
-    }
-    all(word).ok_or(Mistake::Store(word))
-}
-
-fn load<'a>(word: &'a [u8]) -> Result<Option<Load>, Mistake<'a>> {
-    for load in LOADS {
-        if word == load.name().as_bytes() {
-            return Ok(Some(load));
-        }
-    }
-    all(word).ok_or(Mistake::Load(word))
-}
-
-// No name, if the word asks for all.
-fn all<T>(word: &[u8]) -> Option<Option<T>> {
-    match word {
-        b"all" => Some(None),
-        _ => None,
-    }
-}
-
-fn size<'a>(word: &'a [u8]) -> Result<u64, Mistake<'a>> {
+fn size<'a>(word: &'a [u8]) -> Result<u64, Mistake<'a>>
+    ensures { Answers (size_asked word.now) result }
+{
     number(word).ok_or(Mistake::Size(word))
 }
 
-fn timed<'a>(words: &[&'a [u8]]) -> Result<bool, Mistake<'a>> {
+fn timed<'a>(words: &[&'a [u8]]) -> Result<bool, Mistake<'a>>
+    ensures { Answers (timed_by (map (λ word. word.now) words.now)) result }
+{
     match words.first() {
         None => Ok(false),
         Some(word) => match *word {

@@ -1,4 +1,7 @@
 // The loads.
+ghost use Rattle.std.specs.Prelude.{◌≡◌, Some};
+ghost use Rattle.churn.specs.Names.{load_name, load_meant};
+
 use std::fmt;
 
 #[derive(Clone, Copy, PartialEq, Eq, Debug)]
@@ -15,20 +18,28 @@ pub enum Load {
 
 pub const LOADS: [Load; 4] = [Load::Gaps, Load::Queue, Load::Rising, Load::Scattered];
 
-impl Load {
-    pub fn name(&self) -> &'static str {
-        match self {
+// The load of a name.
+pub fn load_of(word: &[u8]) -> Option<Load>
+    ensures { result ≡ load_meant word.now }
+{
+    match word {
+        b"gaps" => Some(Load::Gaps),
+        b"queue" => Some(Load::Queue),
+        b"rising" => Some(Load::Rising),
+        b"scattered" => Some(Load::Scattered),
+        _ => None,
+    }
+}
+
+impl fmt::Display for Load {
+    ghost output = { λ load. Some (load_name load) };
+
+    fn fmt<W: fmt::Write>(&self, f: &mut fmt::Formatter<W>) -> fmt::Result {
+        f.write_str(match self {
             Load::Gaps => "gaps",
             Load::Queue => "queue",
             Load::Rising => "rising",
             Load::Scattered => "scattered",
-        }
-    }
-}
-
-// The name stands in a method because arguments are looked up by it too.
-impl fmt::Display for Load {
-    fn fmt<W: fmt::Write>(&self, f: &mut fmt::Formatter<W>) -> fmt::Result {
-        f.write_str(self.name())
+        })
     }
 }

@@ -7,12 +7,12 @@ mod arguments;
 mod counts;
 mod even;
 mod feed;
-mod kind;
 mod load;
 mod mistake;
 mod orders;
 mod random;
 mod run;
+mod stores;
 #[cfg(test)]
 mod tests;
 mod watch;

@@ -1,4 +1,8 @@
 // What is wrong with the words, and why else nothing is run, or no more.
+ghost use Rattle.std.specs.Prelude.{◌≡◌, Some};
+ghost use Rattle.churn.specs.Complaints.{failure_text, mistake_text};
+ghost use Rattle.churn.specs.declared.mistake.Failure.TheVariants.{Words, Other};
+
 use std::fmt;
 use std::io::Error;
 use words::quoted::Quoted;
@@ -14,6 +18,8 @@ pub enum Mistake<'a> {
 }
 
 impl fmt::Display for Mistake<'_> {
+    ghost output = { λ mistake. Some (mistake_text mistake) };
+
     fn fmt<W: fmt::Write>(&self, f: &mut fmt::Formatter<W>) -> fmt::Result {
         match *self {
             Mistake::Count => f.write_str("the words are STORE LOAD SLOTS LIVE PAIRS [time]"),
@@ -41,18 +47,24 @@ pub enum Failure<'a> {
 }
 
 impl<'a> From<Mistake<'a>> for Failure<'a> {
+    ghost from_gives = { λ mistake failure. failure ≡ Words mistake };
+
     fn from(mistake: Mistake<'a>) -> Failure<'a> {
         Failure::Words(mistake)
     }
 }
 
 impl<'a> From<Error> for Failure<'a> {
+    ghost from_gives = { λ error failure. failure ≡ Other error };
+
     fn from(error: Error) -> Failure<'a> {
         Failure::Other(error)
     }
 }
 
 impl fmt::Display for Failure<'_> {
+    ghost output = { failure_text };
+
     fn fmt<W: fmt::Write>(&self, f: &mut fmt::Formatter<W>) -> fmt::Result {
         match self {
             Failure::Words(mistake) => write!(f, "{mistake}"),

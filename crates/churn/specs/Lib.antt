@@ -1,0 +1,4 @@
+pub mod Arguments
+pub mod Complaints
+pub mod Names
+pub mod Times
