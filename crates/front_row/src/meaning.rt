@@ -55,7 +55,6 @@ impl<S: Store<Order>> Store<Order> for FrontRow<S> {
         Ok(())
     }
 
-    // As `insert`: the trait states each with its own refusal, so one text for both would be no shorter.
     #[tactic(auto, using(crate::proofs::Agreement::unreplaced))]
     fn replace(&mut self, item: Order) -> Result<(), ReplaceRefusal>
         ensures says { Ready S.Store self.old → result ≡ replace_says order_key item (model_of S.Store self.old) }
