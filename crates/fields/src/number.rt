@@ -7,7 +7,7 @@ use crate::field::Field;
 use crate::numeral::Number;
 use crate::place::front;
 use crate::put::put_digits;
-use crate::table::worth;
+use crate::table::look_up;
 
 impl<const BASE: u64, const COUNT: u8> Field for Number<BASE, COUNT> {
     type Value = u64;
@@ -51,7 +51,7 @@ fn step<const BASE: u64, const COUNT: u8>(line: &[u8]) -> Result<u64, u8>
     let held = front(line, COUNT);
     let mut value = 0;
     for (place, byte) in held.iter().enumerate() {
-        let digit = u64::from(worth(*byte));
+        let digit = u64::from(look_up(*byte).worth);
         if digit >= BASE {
             return Err(place as u8);
         }
@@ -73,7 +73,7 @@ fn whole<const BASE: u64, const COUNT: u8>(line: &[u8]) -> Option<u64>
     let mut value: u64 = 0;
     let mut digits: u8 = 0;
     for place in 0..held.len() {
-        let digit = u64::from(worth(held[place]));
+        let digit = u64::from(look_up(held[place]).worth);
         digits += u8::from(digit < BASE);
         value = value.wrapping_mul(BASE).wrapping_add(digit);
     }

@@ -1,24 +1,77 @@
-// The worths of the 256 bytes as base 36 digits.
+//! The table of the 256 bytes.
 ghost use Rattle.std.specs.Prelude.{◌≡◌};
-ghost use Rattle.layout.specs.Bytes.{worth_of};
+ghost use Rattle.fields.specs.Rows.{row_of};
 
-// 36 where the byte is no digit.
-pub(crate) fn worth(byte: u8) -> u8
-    ensures { result ≡ worth_of byte }
-{
-    WORTHS[byte as usize]
+use layout::byte_class::ByteClass::{self, Digit, Letter, Other, Sign, Space};
+
+/// What a byte is: its class, and its worth as a base 36 digit, which is 36 where it is none.
+#[derive(Clone, Copy)]
+pub(crate) struct Row {
+    pub class: ByteClass,
+    pub worth: u8,
 }
 
-static WORTHS: [u8; 256] = [
-    36, 36, 36, 36, 36, 36, 36, 36, 36, 36, 36, 36, 36, 36, 36, 36, 36, 36, 36, 36, 36, 36, 36, 36,
-    36, 36, 36, 36, 36, 36, 36, 36, 36, 36, 36, 36, 36, 36, 36, 36, 36, 36, 36, 36, 36, 36, 36, 36,
-    0, 1, 2, 3, 4, 5, 6, 7, 8, 9, 36, 36, 36, 36, 36, 36, 36, 10, 11, 12, 13, 14, 15, 16, 17, 18,
-    19, 20, 21, 22, 23, 24, 25, 26, 27, 28, 29, 30, 31, 32, 33, 34, 35, 36, 36, 36, 36, 36, 36, 36,
-    36, 36, 36, 36, 36, 36, 36, 36, 36, 36, 36, 36, 36, 36, 36, 36, 36, 36, 36, 36, 36, 36, 36, 36,
-    36, 36, 36, 36, 36, 36, 36, 36, 36, 36, 36, 36, 36, 36, 36, 36, 36, 36, 36, 36, 36, 36, 36, 36,
-    36, 36, 36, 36, 36, 36, 36, 36, 36, 36, 36, 36, 36, 36, 36, 36, 36, 36, 36, 36, 36, 36, 36, 36,
-    36, 36, 36, 36, 36, 36, 36, 36, 36, 36, 36, 36, 36, 36, 36, 36, 36, 36, 36, 36, 36, 36, 36, 36,
-    36, 36, 36, 36, 36, 36, 36, 36, 36, 36, 36, 36, 36, 36, 36, 36, 36, 36, 36, 36, 36, 36, 36, 36,
-    36, 36, 36, 36, 36, 36, 36, 36, 36, 36, 36, 36, 36, 36, 36, 36, 36, 36, 36, 36, 36, 36, 36, 36,
-    36, 36, 36, 36, 36, 36, 36, 36, 36, 36, 36, 36, 36, 36,
+/// The row of a byte. All that is asked about a byte of a field is asked here.
+#[inline(always)]
+pub(crate) fn look_up(byte: u8) -> Row
+    ensures { result ≡ row_of byte }
+{
+    ROWS[byte as usize]
+}
+
+const SPACE: Row = Row {
+    class: Space,
+    worth: 36,
+};
+
+const SIGN: Row = Row {
+    class: Sign,
+    worth: 36,
+};
+
+const OTHER: Row = Row {
+    class: Other,
+    worth: 36,
+};
+
+// By rising byte: one line or more for each run of bytes of one class.
+#[rattlefmt::skip]
+static ROWS: [Row; 256] = [
+    OTHER, OTHER, OTHER, OTHER, OTHER, OTHER, OTHER, OTHER, OTHER, OTHER, OTHER, OTHER, OTHER,
+    OTHER, OTHER, OTHER, OTHER, OTHER, OTHER, OTHER, OTHER, OTHER, OTHER, OTHER, OTHER, OTHER,
+    OTHER, OTHER, OTHER, OTHER, OTHER, OTHER,
+    SPACE, SIGN, SIGN, SIGN, SIGN, SIGN, SIGN, SIGN, SIGN, SIGN, SIGN, SIGN, SIGN, SIGN, SIGN,
+    SIGN,
+    Row { class: Digit, worth: 0 }, Row { class: Digit, worth: 1 },
+    Row { class: Digit, worth: 2 }, Row { class: Digit, worth: 3 },
+    Row { class: Digit, worth: 4 }, Row { class: Digit, worth: 5 },
+    Row { class: Digit, worth: 6 }, Row { class: Digit, worth: 7 },
+    Row { class: Digit, worth: 8 }, Row { class: Digit, worth: 9 },
+    SIGN, SIGN, SIGN, SIGN, SIGN, SIGN, SIGN,
+    Row { class: Letter, worth: 10 }, Row { class: Letter, worth: 11 },
+    Row { class: Letter, worth: 12 }, Row { class: Letter, worth: 13 },
+    Row { class: Letter, worth: 14 }, Row { class: Letter, worth: 15 },
+    Row { class: Letter, worth: 16 }, Row { class: Letter, worth: 17 },
+    Row { class: Letter, worth: 18 }, Row { class: Letter, worth: 19 },
+    Row { class: Letter, worth: 20 }, Row { class: Letter, worth: 21 },
+    Row { class: Letter, worth: 22 }, Row { class: Letter, worth: 23 },
+    Row { class: Letter, worth: 24 }, Row { class: Letter, worth: 25 },
+    Row { class: Letter, worth: 26 }, Row { class: Letter, worth: 27 },
+    Row { class: Letter, worth: 28 }, Row { class: Letter, worth: 29 },
+    Row { class: Letter, worth: 30 }, Row { class: Letter, worth: 31 },
+    Row { class: Letter, worth: 32 }, Row { class: Letter, worth: 33 },
+    Row { class: Letter, worth: 34 }, Row { class: Letter, worth: 35 },
+    SIGN, SIGN, SIGN, SIGN, SIGN, SIGN,
+    SIGN, SIGN, SIGN, SIGN, SIGN, SIGN, SIGN, SIGN, SIGN, SIGN, SIGN, SIGN, SIGN, SIGN, SIGN,
+    SIGN, SIGN, SIGN, SIGN, SIGN, SIGN, SIGN, SIGN, SIGN, SIGN, SIGN, SIGN, SIGN, SIGN, SIGN,
+    OTHER, OTHER, OTHER, OTHER, OTHER, OTHER, OTHER, OTHER, OTHER, OTHER, OTHER, OTHER, OTHER,
+    OTHER, OTHER, OTHER, OTHER, OTHER, OTHER, OTHER, OTHER, OTHER, OTHER, OTHER, OTHER, OTHER,
+    OTHER, OTHER, OTHER, OTHER, OTHER, OTHER, OTHER, OTHER, OTHER, OTHER, OTHER, OTHER, OTHER,
+    OTHER, OTHER, OTHER, OTHER, OTHER, OTHER, OTHER, OTHER, OTHER, OTHER, OTHER, OTHER, OTHER,
+    OTHER, OTHER, OTHER, OTHER, OTHER, OTHER, OTHER, OTHER, OTHER, OTHER, OTHER, OTHER, OTHER,
+    OTHER, OTHER, OTHER, OTHER, OTHER, OTHER, OTHER, OTHER, OTHER, OTHER, OTHER, OTHER, OTHER,
+    OTHER, OTHER, OTHER, OTHER, OTHER, OTHER, OTHER, OTHER, OTHER, OTHER, OTHER, OTHER, OTHER,
+    OTHER, OTHER, OTHER, OTHER, OTHER, OTHER, OTHER, OTHER, OTHER, OTHER, OTHER, OTHER, OTHER,
+    OTHER, OTHER, OTHER, OTHER, OTHER, OTHER, OTHER, OTHER, OTHER, OTHER, OTHER, OTHER, OTHER,
+    OTHER, OTHER, OTHER, OTHER, OTHER, OTHER, OTHER, OTHER, OTHER, OTHER, OTHER, OTHER,
 ];

@@ -1,13 +1,15 @@
 // Padded fields: read, checked and written.
-ghost use Rattle.std.specs.Prelude.{◌≡◌, ◌-◌, ◌/◌, ◌^◌, ◌<◌, ◌≤◌, not, ◌&&◌, replicate, if◌then◌else◌, nat_eq, nat_le};
+ghost use Rattle.std.specs.Prelude.{◌≡◌, ◌-◌, ◌/◌, ◌^◌, ◌<◌, ◌≤◌, not, ◌&&◌, replicate, if◌then◌else◌, nat_le};
 ghost use Rattle.std.specs.Int.Digits.{number_from_digits_after};
-ghost use Rattle.layout.specs.Bytes.{is_of};
+ghost use Rattle.layout.specs.Bytes.{is_blank, has_class};
 ghost use Rattle.fields.specs.Slots.{text_slot};
 
 use crate::field::Field;
 use crate::padded::Text;
 use crate::place::front;
 use crate::put::put_digits;
+use crate::table::look_up;
+use layout::byte_class::ByteClass;
 use layout::class::Class;
 
 impl Field for Text {
@@ -28,10 +30,11 @@ impl Field for Text {
         let mut value = 0;
         let mut spaced = false;
         for (place, byte) in held.iter().enumerate() {
-            if !self.fits(*byte, place as u8, spaced) {
+            let class = look_up(*byte).class;
+            if !self.fits(class, place as u8, spaced) {
                 return Err(place as u8);
             }
-            spaced = *byte == b' ';
+            spaced = is_space(class);
             value = value * 256 + *byte as u64;
         }
         if held.len() < self.width as usize {
@@ -59,24 +62,37 @@ impl Field for Text {
 }
 
 impl Text {
-    // Whether the byte may stand at that place, after a space or not.
-    fn fits(self, byte: u8, place: u8, spaced: bool) -> bool
-        ensures { result ≡ (if nat_eq byte 32 then nat_le self.least place else is_of self.class byte && not spaced) }
+    // Whether a byte of that class may stand at that place, after a space or not.
+    fn fits(self, class: ByteClass, place: u8, spaced: bool) -> bool
+        ensures { result ≡ (if is_blank class then nat_le self.least place
+            else has_class self.class class && not spaced) }
     {
-        if byte == b' ' {
+        if is_space(class) {
             self.least <= place
         } else {
-            in_class(self.class, byte) && !spaced
+            has(self.class, class) && !spaced
         }
     }
 }
 
-fn in_class(class: Class, byte: u8) -> bool
-    ensures { result ≡ is_of class byte }
+fn is_space(class: ByteClass) -> bool
+    ensures { result ≡ is_blank class }
 {
-    match class {
-        Class::Graphic => byte.is_ascii_graphic(),
-        Class::Letter => byte.is_ascii_uppercase(),
+    matches!(class, ByteClass::Space)
+}
+
+// Whether a text has bytes of that class.
+fn has(text: Class, class: ByteClass) -> bool
+    ensures { result ≡ has_class text class }
+{
+    match text {
+        Class::Graphic => {
+            matches!(
+                class,
+                ByteClass::Digit | ByteClass::Letter | ByteClass::Sign
+            )
+        }
+        Class::Letter => matches!(class, ByteClass::Letter),
     }
 }
 

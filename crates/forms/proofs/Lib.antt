@@ -1,1 +1,2 @@
 mod Trimming
+mod Legible

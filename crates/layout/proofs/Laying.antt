@@ -1,5 +1,5 @@
 -- The laws of a layout, by induction over its fields: reading answers what is laid out so, or the first fault.
-use Rattle.std.proofs.Common.{◌≡◌, ℕ, ◌+◌, ◌≤◌, Bool, true, cond, ◌&&◌, eqb, ltb, List, [], ◌∷◌, length, take, drop, Ok, Err, Result, sym, refl, ap, ◌∙◌, subst, ⊎_elim, arith}
+use Rattle.std.proofs.Common.{◌≡◌, ℕ, ◌+◌, ◌≤◌, Bool, true, ◌&&◌, eqb, ltb, List, [], ◌∷◌, length, take, drop, Ok, Err, Result, sym, refl, ap, ◌∙◌, subst, ⊎_elim, arith}
 use Rattle.std.proofs.lemmas.List.{take_all, length-take-le, length-drop, drop-drop}
 use Rattle.std.proofs.lemmas.Bool.{and_parts, and_right, eqb-true, lt-ltb, cases_Bool}
 use Rattle.layout.specs.declared.fault.FieldFault.{FieldFault}
@@ -80,27 +80,18 @@ module _ (s : Slot) (laws : Lawful s) (letter offset : ℕ) (ys : List ℕ) (wit
 
 -- All fields of a line xs, from o on.
 module _ (letter : ℕ) (xs : List ℕ) where
-  -- the fault is the first by the feed's rules, and names the letter
-  abbrev pub FaultAt : List Field → FieldFault → Type 0
-  FaultAt fs (Byte at) = (at.letter ≡ letter) × FirstFault xs fs 4 at.offset
-  FaultAt fs (Range at) = (at.letter ≡ letter) × FirstFault xs fs 5 at.offset
-
   abbrev pub Outcomes : List Field → Result (List ℕ) FieldFault → Type 0
   Outcomes fs (Ok vs) = Laid fs xs vs
-  Outcomes fs (Err e) = FaultAt fs e
-
-  fault-later : (f : Field) (fs : List Field) (v : ℕ) → Spells f.slot (part f xs) v → (e : FieldFault) → FaultAt fs e → FaultAt (f ∷ fs) e
-  fault-later f fs v h (Byte at) e = (e.0, later v h e.1)
-  fault-later f fs v h (Range at) e = (e.0, later v h e.1)
+  Outcomes fs (Err e) = FirstFault letter xs fs e
 
   outcomes-before : (f : Field) (fs : List Field) (v : ℕ) → Spells f.slot (part f xs) v → (r : Result (List ℕ) FieldFault) → Outcomes fs r → Outcomes (f ∷ fs) (before v r)
   outcomes-before f fs v h (Ok vs) l = (h, l)
-  outcomes-before f fs v h (Err e) l = fault-later f fs v h e l
+  outcomes-before f fs v h (Err e) l = later v h l
 
   outcomes-then : (f : Field) (fs : List Field) (laws : Lawful f.slot) (within : width f.slot ≤ length (drop f.offset xs)) (r : Result (ℕ × List ℕ) FieldFault) → Answers f.slot laws letter f.offset (drop f.offset xs) within r → Outcomes fs (read_fields letter fs (drop (width f.slot) (drop f.offset xs))) → Outcomes (f ∷ fs) (then_read r (read_fields letter fs))
   outcomes-then f fs laws within (Ok p) a l = outcomes-before f fs p.0 a.0 (read_fields letter fs p.1) (rw a.1 l)
-  outcomes-then f fs laws within (Err (Byte at)) a l = rw a.1 (refl, byte a.0 a.2)
-  outcomes-then f fs laws within (Err (Range at)) a l = rw a.0 (refl, range a.1)
+  outcomes-then f fs laws within (Err (Byte at)) a l = rw a.1 (byte a.0 a.2)
+  outcomes-then f fs laws within (Err (Range at)) a l = rw a.0 (range a.1)
 
   pub outcomes : (o : ℕ) (fs : List Field) (end : ℕ) → tiled o fs end ≡ true → end ≤ length xs → Outcomes fs (read_fields letter fs (drop o xs))
   outcomes o [] end e le = tt
@@ -127,19 +118,16 @@ module _ (letter : ℕ) (xs : List ℕ) where
       rw (← n.start, here, rest, more)
 
   -- the first fault is the one that reading answers
-  abbrev pub fault : ℕ → ℕ → FieldFault
-  fault n o = cond (eqb n 4) (Byte (origin letter o)) (Range (origin letter o))
-
-  fault-step : (f : Field) (fs : List Field) (laws : Lawful f.slot) → width f.slot ≤ length (drop f.offset xs) → ((n e : ℕ) → FirstFault xs fs n e → read_fields letter fs (drop (width f.slot) (drop f.offset xs)) ≡ Err (fault n e)) → {n e : ℕ} → FirstFault xs (f ∷ fs) n e → read_fields letter (f ∷ fs) (drop f.offset xs) ≡ Err (fault n e)
+  fault-step : (f : Field) (fs : List Field) (laws : Lawful f.slot) → width f.slot ≤ length (drop f.offset xs) → ((e : FieldFault) → FirstFault letter xs fs e → read_fields letter fs (drop (width f.slot) (drop f.offset xs)) ≡ Err e) → {e : FieldFault} → FirstFault letter xs (f ∷ fs) e → read_fields letter (f ∷ fs) (drop f.offset xs) ≡ Err e
   fault-step f fs laws within more (byte i b) = rw (reads-break f.slot laws letter f.offset (drop f.offset xs) within i b)
   fault-step f fs laws within more (range b) = rw (reads-out f.slot laws letter f.offset (drop f.offset xs) within b)
-  fault-step f fs laws within more {n} {e} (later v b h) = rw (reads-spelled f.slot laws letter f.offset (drop f.offset xs) within v b, more n e h)
+  fault-step f fs laws within more {e} (later v b h) = rw (reads-spelled f.slot laws letter f.offset (drop f.offset xs) within v b, more e h)
 
-  pub reads-fault : (o : ℕ) (fs : List Field) (end : ℕ) → tiled o fs end ≡ true → end ≤ length xs → {n e : ℕ} → FirstFault xs fs n e → read_fields letter fs (drop o xs) ≡ Err (fault n e)
+  pub reads-fault : (o : ℕ) (fs : List Field) (end : ℕ) → tiled o fs end ≡ true → end ≤ length xs → {e : FieldFault} → FirstFault letter xs fs e → read_fields letter fs (drop o xs) ≡ Err e
   reads-fault o [] end t le h = elim h [ ]
   reads-fault o (f ∷ fs) end t le h =
       let x = next o f fs end t in
       let past = tiled-le (o + width f.slot) fs end x.rest in
       let within : width f.slot ≤ length (drop f.offset xs) = simp length-drop (omega (arith, x.start)) in
       let rest : drop (width f.slot) (drop f.offset xs) ≡ drop (o + width f.slot) xs = drop-drop (width f.slot) f.offset xs ∙ ap (λ k. drop (k + width f.slot) xs) x.start in
-      rw (← x.start) (fault-step f fs x.laws within (λ n e g. rw rest (reads-fault (o + width f.slot) fs end x.rest le g)) h)
+      rw (← x.start) (fault-step f fs x.laws within (λ e g. rw rest (reads-fault (o + width f.slot) fs end x.rest le g)) h)

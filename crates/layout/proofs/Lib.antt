@@ -1,4 +1,5 @@
 pub mod Search
+pub mod Classes
 pub mod Digits
 pub mod Reading
 pub mod Scanning

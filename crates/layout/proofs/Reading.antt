@@ -1,5 +1,5 @@
 -- What a walk over a field finds, by what its bytes are.
-use Rattle.std.proofs.Common.{◌≡◌, ℕ, ◌<◌, ◌≤◌, true, false, cond, eqb, List, [], ◌∷◌, length, get_or, take, Some, None, Ok, Err, Option, Result, sym, refl, ap, ◌∙◌, ⊎_elim, arith, MatchResult}
+use Rattle.std.proofs.Common.{◌≡◌, ℕ, ◌<◌, ◌≤◌, true, false, List, [], ◌∷◌, length, get_or, take, Some, None, Ok, Err, Option, Result, sym, refl, ap, ◌∙◌, arith, MatchResult}
 use Rattle.std.specs.Result.{result_or}
 use Rattle.layout.specs.Slots.{Slot, width, holds, value_of, first_failing, walked, scan_slot, choice, is_one_of, Passes, Stops}
 use Rattle.std.proofs.lemmas.List.{get_or-take, take-take}

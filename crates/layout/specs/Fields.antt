@@ -1,7 +1,8 @@
 -- A message's layout: its fields by offset. Reading, checking and writing go through the fields in that order.
-use Rattle.std.specs.Prelude.{◌≡◌, ℕ, ◌+◌, false, List, [], ◌∷◌, ◌++◌, take, drop, Ok, Err, Result}
+use Rattle.std.specs.Prelude.{◌≡◌, ℕ, false, List, [], ◌∷◌, ◌++◌, take, drop, Ok, Err, Result}
 use Rattle.layout.specs.declared.fault.FieldFault.{FieldFault}
-use Rattle.layout.specs.Slots.{Slot, width, Spells, keeps, Passes, Stops, in_range, value_of, read_slot, check_slot, spell, over}
+use Rattle.layout.specs.declared.fault.FieldFault.TheVariants.{Byte, Range}
+use Rattle.layout.specs.Slots.{Slot, width, Spells, keeps, Passes, Stops, in_range, value_of, spot, origin, read_slot, check_slot, spell, over}
 
 -- a field starts at an offset, and holds what its slot says
 pub record Field : Type 0 where
@@ -32,11 +33,17 @@ BreaksAt s p i = Stops (keeps s p) (width s) i
 abbrev pub OutOfRange : Slot → List ℕ → Type 0
 OutOfRange s p = Passes (keeps s p) (width s) × (in_range s (value_of s p) ≡ false)
 
--- the fault's number, and the offset that it carries
-pub data FirstFault (xs : List ℕ) : List Field → ℕ → ℕ → Type 0 where
-  byte : {f : Field} {fs : List Field} (i : ℕ) → BreaksAt f.slot (part f xs) i → FirstFault xs (f ∷ fs) 4 (f.offset + i)
-  range : {f : Field} {fs : List Field} → OutOfRange f.slot (part f xs) → FirstFault xs (f ∷ fs) 5 f.offset
-  later : {f : Field} {fs : List Field} {n o : ℕ} (v : ℕ) → Spells f.slot (part f xs) v → FirstFault xs fs n o → FirstFault xs (f ∷ fs) n o
+-- of a line of the message with that letter
+pub data FirstFault (letter : ℕ) (xs : List ℕ) : List Field → FieldFault → Type 0 where
+  byte :
+      {f : Field} {fs : List Field} (i : ℕ) → BreaksAt f.slot (part f xs) i →
+      FirstFault letter xs (f ∷ fs) (Byte (spot letter f.offset i))
+  range :
+      {f : Field} {fs : List Field} → OutOfRange f.slot (part f xs) →
+      FirstFault letter xs (f ∷ fs) (Range (origin letter f.offset))
+  later :
+      {f : Field} {fs : List Field} {e : FieldFault} (v : ℕ) → Spells f.slot (part f xs) v →
+      FirstFault letter xs fs e → FirstFault letter xs (f ∷ fs) e
 
 -- The first field, by offset, whose value no bytes spell.
 pub data FirstUngiven : List Field → List ℕ → ℕ → Type 0 where

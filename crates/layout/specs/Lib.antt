@@ -2,3 +2,4 @@ pub mod Bytes
 pub mod Digits
 pub mod Slots
 pub mod Fields
+pub mod Faults

@@ -47,7 +47,7 @@ impl<O: Store<Order>, E: Store<Execution>, S: Store<SymbolRow>> Ledger<O, E, S> 
     }
 
     // Shares of an order are executed, at the price that the order has now.
-    pub(crate) fn execute(&mut self, said: &record::Execution) -> Result<Outcome, LedgerFault>
+    pub(crate) fn execute(&mut self, said: &record::OrderExecution) -> Result<Outcome, LedgerFault>
         ensures says { result ≡ answered (event_of (OrderExecuted said.now)) self.old }
         ensures leaves { self.new ≡ followed (event_of (OrderExecuted said.now)) self.old }
     {

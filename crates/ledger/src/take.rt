@@ -72,7 +72,7 @@ impl<O: Store<Order>, E: Store<Execution>, S: Store<SymbolRow>> Ledger<O, E, S> 
         match message {
             Message::SymbolClear(clear) => Ok(self.clear(clear.symbol)),
             Message::AddShort(add) => self.add(order_of(add)),
-            Message::AddLong(attributed) => self.add(order_of(&attributed.add)),
+            Message::AddLong(long) => self.add(order_of(&long.add)),
             Message::OrderExecuted(executed) => self.execute(executed),
             Message::OrderCancel(cancel) => self.cancel(cancel),
             Message::TradeShort(trade) | Message::TradeLong(trade) => {

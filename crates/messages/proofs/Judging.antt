@@ -3,9 +3,8 @@ use Rattle.std.proofs.Common.{◌≡◌, ℕ, ◌≤◌, true, false, eqb, ltb, 
 use Rattle.std.proofs.lemmas.List.{get_or-take, get_or-drop}
 use Rattle.std.proofs.lemmas.Bool.{cases_Bool, eqb-true, eqb-false, eq-eqb, ne_eqb, ltb-true, ltb-false, lt-ltb, le-ltb, or_cases, both_ways}
 use Rattle.layout.specs.declared.fault.FieldFault.{FieldFault}
-use Rattle.layout.specs.declared.fault.FieldFault.TheVariants.{Byte, Range}
-use Rattle.layout.specs.Fields.{Field, Laid, FirstFault, byte, range, later, read_fields}
-use Rattle.layout.proofs.Laying.{Outcomes, outcomes, reads-laid, reads-fault, fault}
+use Rattle.layout.specs.Fields.{Laid, FirstFault, read_fields}
+use Rattle.layout.proofs.Laying.{Outcomes, outcomes, reads-laid, reads-fault}
 use Rattle.messages.specs.declared.fault.MessageFault.{MessageFault}
 use Rattle.messages.specs.declared.fault.MessageFault.TheVariants.{Cut, Unknown, Length, Field as field}
 use Rattle.messages.specs.declared.message.Message.{Message}
@@ -24,8 +23,7 @@ module _ (xs : List ℕ) where
 
   judged-row : (t : MessageType) → letter_of t ≡ get_or xs 8 0 → length xs ≡ length_of t → (r : Result (List ℕ) FieldFault) → Outcomes (letter_of t) xs (layout_of t) r → Judged (tagged t r)
   judged-row t letter size (Ok vs) l = (size, l)
-  judged-row t letter size (Err (Byte at)) l = rw l.0 (faulty t letter size l.1)
-  judged-row t letter size (Err (Range at)) l = rw l.0 (faulty t letter size l.1)
+  judged-row t letter size (Err e) l = faulty t letter size l
 
   judged-as : (t : MessageType) → letter_of t ≡ get_or xs 8 0 → length xs ≡ length_of t → Judged (read_of_kind t xs)
   unfolding read_row
@@ -75,15 +73,7 @@ module _ (xs : List ℕ) where
   abbrev pub Refused : ℕ → List ℕ → Type 0
   Refused n vs = (e : MessageFault) × (line_read xs ≡ Err e) × (number_of e ≡ n) × (carried_of e ≡ vs)
 
-  fault-number : {fs : List Field} {n o : ℕ} (letter : ℕ) → FirstFault xs fs n o → number_of (field (fault letter xs n o)) ≡ n
-  fault-number letter (byte i h) = refl
-  fault-number letter (range h) = refl
-  fault-number letter (later v h rest) = fault-number letter rest
-
-  fault-carries : (letter n o : ℕ) → carried_of (field (fault letter xs n o)) ≡ letter ∷ o ∷ []
-  fault-carries letter n o = ⊎_elim (λ e. rw e) (λ e. rw e) (cases_Bool (eqb n 4))
-
-  refused-field : (t : MessageType) → letter_of t ≡ get_or xs 8 0 → length xs ≡ length_of t → {n o : ℕ} → FirstFault xs (layout_of t) n o → line_read xs ≡ Err (field (fault (letter_of t) xs n o))
+  refused-field : (t : MessageType) → letter_of t ≡ get_or xs 8 0 → length xs ≡ length_of t → {e : FieldFault} → FirstFault (letter_of t) xs (layout_of t) e → line_read xs ≡ Err (field e)
   unfolding read_row
   refused-field t letter size h = read-kind t letter size ∙ ap (tagged t) (reads-fault (letter_of t) xs 0 (layout_of t) (length_of t) (row t).tiles (omega arith) h)
 
@@ -93,4 +83,4 @@ module _ (xs : List ℕ) where
   due-refused (misfit t held letter other) =
       let e = le-ltb (length xs) 9 held in
       (Length (get_or xs 8 0), rw (e, type-of (get_or xs 8 0) t letter, ne_eqb (length xs) (length_of t) other), refl, ap (λ b. b ∷ []) (sym letter))
-  due-refused (faulty {n = n} {o = o} t letter size h) = (field (fault (letter_of t) xs n o), refused-field t letter size h, fault-number (letter_of t) h, fault-carries (letter_of t) n o)
+  due-refused (faulty {e = e} t letter size h) = (field e, refused-field t letter size h, refl, refl)

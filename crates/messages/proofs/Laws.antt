@@ -20,7 +20,7 @@ use Rattle.messages.specs.Types.{MessageType}
 use Rattle.messages.specs.Values.{type_of, values_of}
 use Rattle.layout.proofs.Putting.{line-laid, length-line, put-line, laid-checks, check-ungiven, Checked, checked as check-answers}
 use Rattle.layout.proofs.Writing.{over-within}
-use Rattle.messages.proofs.Back.{told-apart}
+use Rattle.messages.proofs.Back.{told-apart, message-read}
 use Rattle.messages.proofs.Judging.{Judged, judged, laid-read, due-refused}
 use Rattle.messages.proofs.Table.{row, each}
 
@@ -102,7 +102,7 @@ module _ (m : Message) (place : ℕ) (buf : List ℕ) where
       (λ in'. let le = leb-true (place + length_of (type_of m)) (length buf) in' in rw in' (record {
         line = λ n h. fits-end n l le (ok-inj h);
         only = only-line;
-        back = λ n h. laid-read (written m) m l;
+        back = λ n h. message-read (written m) (Ok m) (laid-read (written m) m l);
         kept = λ f h. absurd (never h);
         refused = λ n vs. (λ h. absurd h, λ d. let q = due-passed e d in omega (arith, q.2));
       }))

@@ -4,8 +4,9 @@ use Rattle.layout.specs.Slots.{Spells}
 use Rattle.messages.specs.declared.fault.MessageFault.{MessageFault}
 use Rattle.messages.specs.declared.message.Message.{Message}
 use Rattle.messages.specs.Layouts.{short_symbol, long_symbol}
-use Rattle.messages.specs.Lines.{line_read, told, written}
+use Rattle.messages.specs.Lines.{written}
 use Rattle.messages.specs.Refusals.{LaidOut, Due, WriteDue, Refuses}
+use Rattle.messages.specs.Telling.{line_message}
 
 -- Of what reading the line xs answered.
 pub record Reading (xs : List ℕ) (r : Result Message MessageFault) : Type 0 where
@@ -21,10 +22,13 @@ pub record Reading (xs : List ℕ) (r : Result Message MessageFault) : Type 0 wh
 -- Of what writing the message m from the place on answered, and of what the buffer held before and after.
 pub record Writing (m : Message) (place : ℕ) (buf after : List ℕ) (r : Result ℕ MessageFault) : Type 0 where
   -- what was written is the one line that is laid out as the message; the answer is its length, and every other byte stays
-  pub line : (n : ℕ) → r ≡ Ok n → LaidOut (written m) m × (n ≡ length (written m)) × (place + n ≤ length buf) × (after ≡ take place buf ++ (written m ++ drop (place + n) buf))
+  pub line :
+      (n : ℕ) → r ≡ Ok n →
+      LaidOut (written m) m × (n ≡ length (written m)) × (place + n ≤ length buf)
+      × (after ≡ take place buf ++ (written m ++ drop (place + n) buf))
   pub only : (xs : List ℕ) → LaidOut xs m → xs ≡ written m
   -- reading it gives the message
-  pub back : (n : ℕ) → r ≡ Ok n → line_read (written m) ≡ Ok (told m)
+  pub back : (n : ℕ) → r ≡ Ok n → line_message (written m) ≡ Ok m
   -- a refusal changes nothing
   pub kept : (e : MessageFault) → r ≡ Err e → after ≡ buf
   -- each refusal is given in its own case, and in that case only

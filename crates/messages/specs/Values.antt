@@ -4,8 +4,8 @@ use Rattle.messages.specs.declared.message.Message.{Message}
 use Rattle.messages.specs.declared.message.Message.TheVariants.{SymbolClear, AddShort, AddLong, OrderExecuted, OrderCancel, TradeShort, TradeLong, TradeBreak}
 use Rattle.messages.specs.declared.record.ClearSymbol.{ClearSymbol}
 use Rattle.messages.specs.declared.record.AddOrder.{AddOrder}
-use Rattle.messages.specs.declared.record.AttributedAdd.{AttributedAdd}
-use Rattle.messages.specs.declared.record.Execution.{Execution}
+use Rattle.messages.specs.declared.record.LongAdd.{LongAdd}
+use Rattle.messages.specs.declared.record.OrderExecution.{OrderExecution}
 use Rattle.messages.specs.declared.record.Cancel.{Cancel}
 use Rattle.messages.specs.declared.record.Terms.{Terms}
 use Rattle.messages.specs.declared.record.Trade.{Trade}
@@ -25,10 +25,12 @@ terms_then side letter r vs = r.time ∷ letter ∷ r.order ∷ side r.side ∷ 
 abbrev pub add_values : AddOrder → List ℕ
 add_values r = terms_then side_letter (letter_of kind.AddShort) r.terms (display_letter r.display ∷ [])
 
-abbrev pub attributed_values : AttributedAdd → List ℕ
-attributed_values r = terms_then side_letter (letter_of kind.AddLong) r.add.terms (display_letter r.add.display ∷ r.participant ∷ customer_letter r.customer ∷ [])
+abbrev pub long_add_values : LongAdd → List ℕ
+long_add_values r =
+    terms_then side_letter (letter_of kind.AddLong) r.add.terms
+    (display_letter r.add.display ∷ r.participant ∷ customer_letter r.customer ∷ [])
 
-abbrev pub executed_values : Execution → List ℕ
+abbrev pub executed_values : OrderExecution → List ℕ
 executed_values r = r.time ∷ letter_of kind.OrderExecuted ∷ r.order ∷ r.shares ∷ r.execution ∷ []
 
 abbrev pub cancel_values : Cancel → List ℕ
@@ -56,7 +58,7 @@ type_of (TradeBreak r) = kind.TradeBreak
 abbrev pub values_of : Message → List ℕ
 values_of (SymbolClear r) = clear_values r
 values_of (AddShort r) = add_values r
-values_of (AddLong r) = attributed_values r
+values_of (AddLong r) = long_add_values r
 values_of (OrderExecuted r) = executed_values r
 values_of (OrderCancel r) = cancel_values r
 values_of (TradeShort r) = trade_values kind.TradeShort r

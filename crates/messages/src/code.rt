@@ -1,5 +1,5 @@
-// Values that a line has as one letter. Each type writes its conversions out, as its variants and letters are its own, and no impl may come from a macro or a
-// derive of the repository's own.
+//! Values that a line has as one letter. Each type writes its conversions out: its variants and
+//! letters are its own, and no impl may come from a macro or a derive of the repository's own.
 ghost use Rattle.std.specs.Prelude.{◌≡◌};
 ghost use Rattle.fields.specs.Letters.{ReadAs};
 ghost use Rattle.messages.specs.Codes.{side_letter, trade_side_letter, display_letter, customer_letter, side_letters, trade_side_letters, display_letters, customer_letters};
@@ -14,13 +14,14 @@ pub enum Side {
     Sell,
 }
 
-// A trade's line says buy, whatever the side of the order that rested.
+/// A trade's line says buy, whatever the side of the order that rested.
 #[derive(Clone, Copy, PartialEq, Eq, Debug)]
 pub enum TradeSide {
     Buy,
 }
 
-// Whether the order is part of the exchange's quote on the consolidated tape.
+/// Whether the order is part of the quote that the exchange gives the SIP, the securities information
+/// processor, which joins the quotes of all exchanges.
 #[derive(Clone, Copy, PartialEq, Eq, Debug)]
 pub enum Display {
     Quoted,

@@ -1,12 +1,12 @@
-// A message of any kind.
-use crate::record::{AddOrder, AttributedAdd, Break, Cancel, ClearSymbol, Execution, Trade};
+//! A message of any kind.
+use crate::record::{AddOrder, Break, Cancel, ClearSymbol, LongAdd, OrderExecution, Trade};
 
 #[derive(Clone, Copy, PartialEq, Eq, Debug)]
 pub enum Message {
     SymbolClear(ClearSymbol),
     AddShort(AddOrder),
-    AddLong(AttributedAdd),
-    OrderExecuted(Execution),
+    AddLong(LongAdd),
+    OrderExecuted(OrderExecution),
     OrderCancel(Cancel),
     TradeShort(Trade),
     TradeLong(Trade),

@@ -1,32 +1,35 @@
-// Add Order, in its short and in its long form: a row of constants each, with what ties it to the layout table.
+//! Add Order, in its short and in its long form.
 ghost use Rattle.std.specs.Prelude.{refl};
-ghost use Rattle.messages.specs.Layouts.{short_symbol, long_symbol};
+ghost use Rattle.messages.specs.Layouts.{letter_of, length_of, layout_of};
 ghost use Rattle.messages.specs.Types as kind;
+ghost use Rattle.messages.specs.Values.{add_values, long_add_values};
 
-use fields::padded::{LONG_SYMBOL, SHORT_SYMBOL, Text};
+use fields::padded::{LONG_SYMBOL, SHORT_SYMBOL};
+use layout::fault::FieldFault;
+use messages::kind::Kind;
 use messages::message::Message;
-use messages::record::{AddOrder, AttributedAdd};
-use terms::form::{Form, OfForm};
+use messages::record::{AddOrder, LongAdd};
+use terms::line::{check_terms, put_terms, read_terms};
 
-// The short form: A.
-pub struct ShortAdd;
+/// The short form: A.
+pub struct AddShort;
 
-pub type AddShort = OfForm<ShortAdd>;
-
-impl Form for ShortAdd {
+impl Kind for AddShort {
     const LETTER: u8 = b'A';
 
-    ghost LETTER = { 65 };
+    ghost LETTER = { letter_of kind.AddShort };
 
     const LENGTH: usize = 45;
 
-    ghost LENGTH = { 45 };
+    ghost LENGTH = { length_of kind.AddShort };
 
     type Record = AddOrder;
 
     ghost row = { kind.AddShort };
 
-    ghost symbol = { short_symbol };
+    ghost fields = { layout_of kind.AddShort };
+
+    ghost values = { add_values };
 
     ghost lettered = { refl };
 
@@ -34,34 +37,42 @@ impl Form for ShortAdd {
 
     ghost laid = { refl };
 
-    fn symbol() -> Text {
-        SHORT_SYMBOL
+    fn message(add: AddOrder) -> Message {
+        Message::AddShort(add)
     }
 
-    fn message(said: AddOrder) -> Message {
-        Message::AddShort(said)
+    fn read(line: &[u8]) -> Result<AddOrder, FieldFault> {
+        read_terms(line, Self::LETTER, SHORT_SYMBOL)
+    }
+
+    fn check(add: &AddOrder) -> Result<(), FieldFault> {
+        check_terms(add, Self::LETTER, SHORT_SYMBOL)
+    }
+
+    fn put(add: &AddOrder, room: &mut [u8]) {
+        put_terms(add, room, Self::LETTER, SHORT_SYMBOL);
     }
 }
 
-// The long form, which says to whom the order is attributed: d.
-pub struct LongAdd;
+/// The long form, for symbols of up to eight bytes: d.
+pub struct AddLong;
 
-pub type AddLong = OfForm<LongAdd>;
-
-impl Form for LongAdd {
+impl Kind for AddLong {
     const LETTER: u8 = b'd';
 
-    ghost LETTER = { 100 };
+    ghost LETTER = { letter_of kind.AddLong };
 
     const LENGTH: usize = 52;
 
-    ghost LENGTH = { 52 };
+    ghost LENGTH = { length_of kind.AddLong };
 
-    type Record = AttributedAdd;
+    type Record = LongAdd;
 
     ghost row = { kind.AddLong };
 
-    ghost symbol = { long_symbol };
+    ghost fields = { layout_of kind.AddLong };
+
+    ghost values = { long_add_values };
 
     ghost lettered = { refl };
 
@@ -69,11 +80,19 @@ impl Form for LongAdd {
 
     ghost laid = { refl };
 
-    fn symbol() -> Text {
-        LONG_SYMBOL
+    fn message(add: LongAdd) -> Message {
+        Message::AddLong(add)
     }
 
-    fn message(said: AttributedAdd) -> Message {
-        Message::AddLong(said)
+    fn read(line: &[u8]) -> Result<LongAdd, FieldFault> {
+        read_terms(line, Self::LETTER, LONG_SYMBOL)
+    }
+
+    fn check(add: &LongAdd) -> Result<(), FieldFault> {
+        check_terms(add, Self::LETTER, LONG_SYMBOL)
+    }
+
+    fn put(add: &LongAdd, room: &mut [u8]) {
+        put_terms(add, room, Self::LETTER, LONG_SYMBOL);
     }
 }

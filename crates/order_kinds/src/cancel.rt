@@ -1,6 +1,6 @@
 // Order Cancel: X. Three lists of its own fields; `Kind` says why these are written out.
 ghost use Rattle.std.specs.Prelude.{refl};
-ghost use Rattle.messages.specs.Layouts.{layout_of};
+ghost use Rattle.messages.specs.Layouts.{letter_of, length_of, layout_of};
 ghost use Rattle.messages.specs.Types.{OrderCancel as kind};
 ghost use Rattle.messages.specs.Values.{cancel_values};
 
@@ -17,11 +17,11 @@ pub struct OrderCancel;
 impl Kind for OrderCancel {
     const LETTER: u8 = b'X';
 
-    ghost LETTER = { 88 };
+    ghost LETTER = { letter_of kind };
 
     const LENGTH: usize = 27;
 
-    ghost LENGTH = { 27 };
+    ghost LENGTH = { length_of kind };
 
     type Record = Cancel;
 

@@ -1,6 +1,6 @@
 // Symbol Clear: s. Three lists of its own fields; `Kind` says why these are written out.
 ghost use Rattle.std.specs.Prelude.{refl};
-ghost use Rattle.messages.specs.Layouts.{layout_of};
+ghost use Rattle.messages.specs.Layouts.{letter_of, length_of, layout_of};
 ghost use Rattle.messages.specs.Types.{SymbolClear as kind};
 ghost use Rattle.messages.specs.Values.{clear_values};
 
@@ -18,11 +18,11 @@ pub struct SymbolClear;
 impl Kind for SymbolClear {
     const LETTER: u8 = b's';
 
-    ghost LETTER = { 115 };
+    ghost LETTER = { letter_of kind };
 
     const LENGTH: usize = 17;
 
-    ghost LENGTH = { 17 };
+    ghost LENGTH = { length_of kind };
 
     type Record = ClearSymbol;
 

@@ -1,6 +1,6 @@
 // Order Executed: E. Three lists of its own fields; `Kind` says why these are written out.
 ghost use Rattle.std.specs.Prelude.{refl};
-ghost use Rattle.messages.specs.Layouts.{layout_of};
+ghost use Rattle.messages.specs.Layouts.{letter_of, length_of, layout_of};
 ghost use Rattle.messages.specs.Types.{OrderExecuted as kind};
 ghost use Rattle.messages.specs.Values.{executed_values};
 
@@ -10,20 +10,20 @@ use fields::reading::Reading;
 use layout::fault::FieldFault;
 use messages::kind::Kind;
 use messages::message::Message;
-use messages::record::Execution;
+use messages::record::OrderExecution;
 
 pub struct OrderExecuted;
 
 impl Kind for OrderExecuted {
     const LETTER: u8 = b'E';
 
-    ghost LETTER = { 69 };
+    ghost LETTER = { letter_of kind };
 
     const LENGTH: usize = 39;
 
-    ghost LENGTH = { 39 };
+    ghost LENGTH = { length_of kind };
 
-    type Record = Execution;
+    type Record = OrderExecution;
 
     ghost row = { kind };
 
@@ -37,17 +37,17 @@ impl Kind for OrderExecuted {
 
     ghost laid = { refl };
 
-    fn message(executed: Execution) -> Message {
+    fn message(executed: OrderExecution) -> Message {
         Message::OrderExecuted(executed)
     }
 
-    fn read(line: &[u8]) -> Result<Execution, FieldFault> {
+    fn read(line: &[u8]) -> Result<OrderExecution, FieldFault> {
         let (time, rest) = TIME.read(line, Self::at(0))?;
         let (_, rest) = Self::mark().read(rest, Self::at(8))?;
         let (order, rest) = ID.read(rest, Self::at(9))?;
         let (shares, rest) = SHARES.read(rest, Self::at(21))?;
         let (execution, _) = ID.read(rest, Self::at(27))?;
-        Ok(Execution {
+        Ok(OrderExecution {
             time,
             order,
             shares,
@@ -55,14 +55,14 @@ impl Kind for OrderExecuted {
         })
     }
 
-    fn check(executed: &Execution) -> Result<(), FieldFault> {
+    fn check(executed: &OrderExecution) -> Result<(), FieldFault> {
         TIME.check(executed.time, Self::at(0))?;
         ID.check(executed.order, Self::at(9))?;
         SHARES.check(executed.shares, Self::at(21))?;
         ID.check(executed.execution, Self::at(27))
     }
 
-    fn put(executed: &Execution, room: &mut [u8]) {
+    fn put(executed: &OrderExecution, room: &mut [u8]) {
         TIME.put(room, 0, executed.time);
         Self::mark().put(room, 8, ());
         ID.put(room, 9, executed.order);

@@ -36,14 +36,14 @@ fn read_line(line: &[u8]) -> Result<Message, MessageFault>
         return Err(MessageFault::Cut);
     }
     match line[8] {
-        b's' => read_kind::<SymbolClear>(line),
-        b'A' => read_kind::<AddShort>(line),
-        b'd' => read_kind::<AddLong>(line),
-        b'E' => read_kind::<OrderExecuted>(line),
-        b'X' => read_kind::<OrderCancel>(line),
-        b'P' => read_kind::<TradeShort>(line),
-        b'r' => read_kind::<TradeLong>(line),
-        b'B' => read_kind::<TradeBreak>(line),
+        SymbolClear::LETTER => read_kind::<SymbolClear>(line),
+        AddShort::LETTER => read_kind::<AddShort>(line),
+        AddLong::LETTER => read_kind::<AddLong>(line),
+        OrderExecuted::LETTER => read_kind::<OrderExecuted>(line),
+        OrderCancel::LETTER => read_kind::<OrderCancel>(line),
+        TradeShort::LETTER => read_kind::<TradeShort>(line),
+        TradeLong::LETTER => read_kind::<TradeLong>(line),
+        TradeBreak::LETTER => read_kind::<TradeBreak>(line),
         letter => Err(MessageFault::Unknown(letter)),
     }
 }

@@ -9,9 +9,16 @@ ghost use Rattle.speed.specs.Checksum.{mixed, mixed_all, after_line};
 use fields::letter::Lettered;
 use layout::fault::FieldFault;
 use messages::fault::MessageFault;
+use messages::kind::Kind;
 use messages::message::Message;
 use messages::record::{AddOrder, Terms};
+use order_kinds::add::{AddLong, AddShort};
+use order_kinds::cancel::OrderCancel;
+use order_kinds::clear::SymbolClear;
+use order_kinds::executed::OrderExecuted;
 use pitch::reader::read;
+use trade_kinds::trade::{TradeLong, TradeShort};
+use trade_kinds::trade_break::TradeBreak;
 
 // The sum with what the line says, or why it is no message.
 pub(crate) fn add_line(sum: u64, line: &[u8]) -> u64
@@ -28,20 +35,29 @@ fn add_message(sum: u64, message: &Message) -> u64
     ensures { result ≡ mixed_all sum (values_of message.now) }
 {
     match message {
-        Message::SymbolClear(m) => mix_all(sum, &[m.time, b's' as u64, m.symbol]),
-        Message::AddShort(m) => add_order(sum, b'A', m),
+        Message::SymbolClear(m) => mix_all(sum, &[m.time, SymbolClear::LETTER as u64, m.symbol]),
+        Message::AddShort(m) => add_order(sum, AddShort::LETTER, m),
         Message::AddLong(m) => {
-            let sum = add_order(sum, b'd', &m.add);
+            let sum = add_order(sum, AddLong::LETTER, &m.add);
             mix_all(sum, &[m.participant, letter_of(m.customer)])
         }
         Message::OrderExecuted(m) => mix_all(
             sum,
-            &[m.time, b'E' as u64, m.order, m.shares, m.execution],
+            &[
+                m.time,
+                OrderExecuted::LETTER as u64,
+                m.order,
+                m.shares,
+                m.execution,
+            ],
         ),
-        Message::OrderCancel(m) => mix_all(sum, &[m.time, b'X' as u64, m.order, m.shares]),
-        Message::TradeShort(m) => mix(add_terms(sum, b'P', &m.terms), m.execution),
-        Message::TradeLong(m) => mix(add_terms(sum, b'r', &m.terms), m.execution),
-        Message::TradeBreak(m) => mix_all(sum, &[m.time, b'B' as u64, m.execution]),
+        Message::OrderCancel(m) => mix_all(
+            sum,
+            &[m.time, OrderCancel::LETTER as u64, m.order, m.shares],
+        ),
+        Message::TradeShort(m) => mix(add_terms(sum, TradeShort::LETTER, &m.terms), m.execution),
+        Message::TradeLong(m) => mix(add_terms(sum, TradeLong::LETTER, &m.terms), m.execution),
+        Message::TradeBreak(m) => mix_all(sum, &[m.time, TradeBreak::LETTER as u64, m.execution]),
     }
 }
 

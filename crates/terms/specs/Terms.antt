@@ -9,12 +9,14 @@ abbrev pub terms_fields_then : ℕ → Slot → Slot → List Field → List Fie
 terms_fields_then letter side symbol fs =
     at 0 time ∷ at 8 (choice (letter ∷ [])) ∷ at 9 identifier ∷ at 21 side ∷ at 22 shares ∷ at 28 symbol ∷ at (28 + width symbol) price ∷ fs
 
--- what an add, an attributed add and a trade say after the terms
+-- what an add, a long add and a trade say after the terms
 abbrev pub add_fields : Slot → List Field
 add_fields symbol = at (38 + width symbol) display ∷ []
 
-abbrev pub attributed_fields : Slot → List Field
-attributed_fields symbol = at (38 + width symbol) display ∷ at (39 + width symbol) participant ∷ at (43 + width symbol) customer ∷ []
+abbrev pub long_add_fields : Slot → List Field
+long_add_fields symbol =
+    at (38 + width symbol) display ∷ at (39 + width symbol) participant
+    ∷ at (43 + width symbol) customer ∷ []
 
 abbrev pub trade_fields : Slot → List Field
 trade_fields symbol = at (38 + width symbol) identifier ∷ []

@@ -5,7 +5,7 @@ ghost use Rattle.layout.specs.Slots.{Slot};
 ghost use Rattle.fields.specs.Slots.{text_slot};
 ghost use Rattle.messages.specs.declared.record.Terms.{Terms};
 ghost use Rattle.messages.specs.Codes.{display_letter, customer_letter};
-ghost use Rattle.terms.specs.Terms.{add_fields, attributed_fields, trade_fields};
+ghost use Rattle.terms.specs.Terms.{add_fields, long_add_fields, trade_fields};
 
 use fields::field::Field;
 use fields::letter::Lettered;
@@ -15,7 +15,7 @@ use fields::place::Place;
 use fields::reading::Reading;
 use layout::fault::FieldFault;
 use messages::code::{CUSTOMER, DISPLAY, Side, TradeSide};
-use messages::record::{AddOrder, AttributedAdd, Terms, Trade};
+use messages::record::{AddOrder, LongAdd, Terms, Trade};
 
 // A record with the terms of an order and others. A line gives the others after the price, which ends later in the long form than in
 // the short one.
@@ -86,12 +86,12 @@ impl Termed for AddOrder {
     }
 }
 
-impl Termed for AttributedAdd {
+impl Termed for LongAdd {
     type Side = Side;
 
     ghost terms = { λ r. r.add.terms };
 
-    ghost others = { attributed_fields };
+    ghost others = { long_add_fields };
 
     ghost said = { λ r. display_letter r.add.display ∷ r.participant ∷ customer_letter r.customer ∷ [] };
 
@@ -104,7 +104,7 @@ impl Termed for AttributedAdd {
         line: &[u8],
         letter: u8,
         form: Text,
-    ) -> Result<AttributedAdd, FieldFault> {
+    ) -> Result<LongAdd, FieldFault> {
         let end = price_end(form);
         let (display, rest) = DISPLAY.read(
             line,
@@ -127,7 +127,7 @@ impl Termed for AttributedAdd {
                 offset: end + 5,
             },
         )?;
-        Ok(AttributedAdd {
+        Ok(LongAdd {
             add: AddOrder {
                 terms: *given,
                 display,

@@ -1,32 +1,35 @@
-// Trade, in its short and in its long form: a row of constants each, with what ties it to the layout table.
+//! Trade, in its short and in its long form.
 ghost use Rattle.std.specs.Prelude.{refl};
-ghost use Rattle.messages.specs.Layouts.{short_symbol, long_symbol};
+ghost use Rattle.messages.specs.Layouts.{letter_of, length_of, layout_of};
 ghost use Rattle.messages.specs.Types as kind;
+ghost use Rattle.messages.specs.Values.{trade_values};
 
-use fields::padded::{LONG_SYMBOL, SHORT_SYMBOL, Text};
+use fields::padded::{LONG_SYMBOL, SHORT_SYMBOL};
+use layout::fault::FieldFault;
+use messages::kind::Kind;
 use messages::message::Message;
 use messages::record::Trade;
-use terms::form::{Form, OfForm};
+use terms::line::{check_terms, put_terms, read_terms};
 
-// The short form: P.
-pub struct ShortTrade;
+/// The short form: P.
+pub struct TradeShort;
 
-pub type TradeShort = OfForm<ShortTrade>;
-
-impl Form for ShortTrade {
+impl Kind for TradeShort {
     const LETTER: u8 = b'P';
 
-    ghost LETTER = { 80 };
+    ghost LETTER = { letter_of kind.TradeShort };
 
     const LENGTH: usize = 56;
 
-    ghost LENGTH = { 56 };
+    ghost LENGTH = { length_of kind.TradeShort };
 
     type Record = Trade;
 
     ghost row = { kind.TradeShort };
 
-    ghost symbol = { short_symbol };
+    ghost fields = { layout_of kind.TradeShort };
+
+    ghost values = { trade_values kind.TradeShort };
 
     ghost lettered = { refl };
 
@@ -34,34 +37,42 @@ impl Form for ShortTrade {
 
     ghost laid = { refl };
 
-    fn symbol() -> Text {
-        SHORT_SYMBOL
+    fn message(trade: Trade) -> Message {
+        Message::TradeShort(trade)
     }
 
-    fn message(said: Trade) -> Message {
-        Message::TradeShort(said)
+    fn read(line: &[u8]) -> Result<Trade, FieldFault> {
+        read_terms(line, Self::LETTER, SHORT_SYMBOL)
+    }
+
+    fn check(trade: &Trade) -> Result<(), FieldFault> {
+        check_terms(trade, Self::LETTER, SHORT_SYMBOL)
+    }
+
+    fn put(trade: &Trade, room: &mut [u8]) {
+        put_terms(trade, room, Self::LETTER, SHORT_SYMBOL);
     }
 }
 
-// The long form: r.
-pub struct LongTrade;
+/// The long form, for symbols of up to eight bytes: r.
+pub struct TradeLong;
 
-pub type TradeLong = OfForm<LongTrade>;
-
-impl Form for LongTrade {
+impl Kind for TradeLong {
     const LETTER: u8 = b'r';
 
-    ghost LETTER = { 114 };
+    ghost LETTER = { letter_of kind.TradeLong };
 
     const LENGTH: usize = 58;
 
-    ghost LENGTH = { 58 };
+    ghost LENGTH = { length_of kind.TradeLong };
 
     type Record = Trade;
 
     ghost row = { kind.TradeLong };
 
-    ghost symbol = { long_symbol };
+    ghost fields = { layout_of kind.TradeLong };
+
+    ghost values = { trade_values kind.TradeLong };
 
     ghost lettered = { refl };
 
@@ -69,11 +80,19 @@ impl Form for LongTrade {
 
     ghost laid = { refl };
 
-    fn symbol() -> Text {
-        LONG_SYMBOL
+    fn message(trade: Trade) -> Message {
+        Message::TradeLong(trade)
     }
 
-    fn message(said: Trade) -> Message {
-        Message::TradeLong(said)
+    fn read(line: &[u8]) -> Result<Trade, FieldFault> {
+        read_terms(line, Self::LETTER, LONG_SYMBOL)
+    }
+
+    fn check(trade: &Trade) -> Result<(), FieldFault> {
+        check_terms(trade, Self::LETTER, LONG_SYMBOL)
+    }
+
+    fn put(trade: &Trade, room: &mut [u8]) {
+        put_terms(trade, room, Self::LETTER, LONG_SYMBOL);
     }
 }

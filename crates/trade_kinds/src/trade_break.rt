@@ -1,6 +1,6 @@
 // Trade Break: B. Three lists of its own fields; `Kind` says why these are written out.
 ghost use Rattle.std.specs.Prelude.{refl};
-ghost use Rattle.messages.specs.Layouts.{layout_of};
+ghost use Rattle.messages.specs.Layouts.{letter_of, length_of, layout_of};
 ghost use Rattle.messages.specs.Types.{TradeBreak as kind};
 ghost use Rattle.messages.specs.Values.{break_values};
 
@@ -17,11 +17,11 @@ pub struct TradeBreak;
 impl Kind for TradeBreak {
     const LETTER: u8 = b'B';
 
-    ghost LETTER = { 66 };
+    ghost LETTER = { letter_of kind };
 
     const LENGTH: usize = 21;
 
-    ghost LENGTH = { 21 };
+    ghost LENGTH = { length_of kind };
 
     type Record = Break;
 

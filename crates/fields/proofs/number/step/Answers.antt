@@ -12,7 +12,7 @@ use Rattle.fields.proofs.number.step.Goals as goal
 pub returns-then-digit : goal.returns-then-digit
 returns-then-digit g c low high =
     let here = in-front _ _ _ c.front-held.ensures c.loop-place.place c.loop-place-test.true in
-    scan-stops _ _ _ (stops-here (number g.row.BASE g.row.COUNT 0 0) c.args.line.now _ _ here.0 c.loop-place.invariant.0 (le-ltb _ _ (rw ((c.from-digit.ensures ∙ c.worth.ensures) ∙ ap worth_of here.2) at c.if-digit.true)))
+    scan-stops _ _ _ (stops-here (number g.row.BASE g.row.COUNT 0 0) c.args.line.now _ _ here.0 c.loop-place.invariant.0 (le-ltb _ _ (rw ((c.from-digit.ensures ∙ ap (λ r. r.worth) c.look_up.ensures) ∙ ap worth_of here.2) at c.if-digit.true)))
 
 pub overflow_mul-value : goal.overflow_mul-value
 overflow_mul-value g c =
@@ -28,7 +28,7 @@ overflow_add-value g c =
 pub loop-place-preserved : goal.loop-place-preserved
 loop-place-preserved g c =
     let here = in-front _ _ _ c.front-held.ensures c.loop-place.place c.loop-place-test.true in
-    let worth = (c.from-digit.ensures ∙ c.worth.ensures) ∙ ap worth_of here.2 in (
+    let worth = (c.from-digit.ensures ∙ ap (λ r. r.worth) c.look_up.ensures) ∙ ap worth_of here.2 in (
       passes-step (number g.row.BASE g.row.COUNT 0 0) c.args.line.now _ c.loop-place.invariant.0 here.1 (lt-ltb _ _ (rw worth at c.if-digit.false)),
       rw (number_more _ worth_of _ _ here.1, ← c.loop-place.invariant.1, worth),
       push-lt _ _ _ _ c.loop-place.invariant.2 c.if-digit.false,

@@ -23,7 +23,7 @@ loop-place-preserved g c =
     let size : c.from.result ≡ g.row.COUNT = c.from.ensures in
     let front : c.in_ok-held.held.now ≡ take g.row.COUNT c.args.line.now = rw (← size) (simp unary_clauses at c.in_ok-held.ensures.lookup.0.2) in
     let here = in-front _ _ _ front c.loop-place.place c.loop-place-test.true in
-    let digit : c.from-digit.result ≡ worth_of (get_or c.args.line.now c.loop-place.place 0) = c.from-digit.ensures ∙ c.worth.ensures ∙ ap worth_of here.2 in
+    let digit : c.from-digit.result ≡ worth_of (get_or c.args.line.now c.loop-place.place 0) = c.from-digit.ensures ∙ ap (λ r. r.worth) c.look_up.ensures ∙ ap worth_of here.2 in
     let one = counted (ltb c.from-digit.result g.row.BASE) c.loop-place.digits c.loop-place.place c.loop-place.invariant.0 in
     rw c.from-digits.ensures (
       one.0,
