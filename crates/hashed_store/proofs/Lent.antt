@@ -1,5 +1,5 @@
 -- The slots that lent memory makes, read and written.
-use Rattle.std.proofs.Common.{◌≡◌, ℕ, zero, suc, ◌<◌, inl, inr, ⊎_elim, eqb, true, false, List, [], ◌∷◌, length, set, replicate, sym, refl, ap, ◌∙◌, arith, Some, None, Option, get_or}
+use Rattle.std.proofs.Common.{◌≡◌, ℕ, zero, suc, ◌<◌, inl, inr, ⊎_elim, eqb, true, false, List, [], ◌∷◌, length, set, replicate, refl, ap, ◌∙◌, arith, Some, None, get_or}
 use Rattle.std.proofs.lemmas.Bool.{eq-eqb, ne_eqb}
 use Rattle.hashed_store.specs.Lent.{slots_of, Tagged}
 use Rattle.hashed_store.specs.Mixing.{tag_of}

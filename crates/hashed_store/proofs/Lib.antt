@@ -4,6 +4,6 @@ pub mod Held
 pub mod Meeting
 pub mod Straying
 pub mod Closing
-pub mod Placing
 pub mod Going
+pub mod Placing
 pub mod Sweeping

@@ -1,5 +1,5 @@
 //! The store: lent slots, and what is kept beside them.
-ghost use Rattle.std.specs.Prelude.{◌≡◌, ◌↔◌, length, None, replicate, IsOk, OnErr, IfOk, IfErr, drop};
+ghost use Rattle.std.specs.Prelude.{◌≡◌, ◌↔◌, [], length, IsOk, IfOk, IfErr, drop};
 ghost use Rattle.hashed_store.specs.Slots.{held};
 ghost use Rattle.hashed_store.specs.Places.{model_of};
 ghost use Rattle.hashed_store.specs.Stores.{InOrder};
@@ -29,20 +29,23 @@ pub struct HashedStore<'a, R: Record, H: Home = Modulo> {
 }
 
 impl<'a, R: Record, H: Home> HashedStore<'a, R, H> {
-    /// A store over as many slots as rows are lent, all empty, whatever the memory holds; of each
-    /// slot there is a row and a tag. Where the rows are not as many as the tags, nothing is written.
+    /// A store over as many slots as rows are lent, with a tag for each, and empty whatever the memory
+    /// holds. Where the tags are not as many as the rows, both come back, and nothing was written.
     pub fn new(
         tags: &'a mut [u8],
         rows: &'a mut [R],
-    ) -> Result<HashedStore<'a, R, H>, UnevenSlots>
+    ) -> Result<HashedStore<'a, R, H>, UnevenSlots<'a, R>>
         ensures even { IsOk result ↔ (length tags.old ≡ length rows.old) }
-        ensures limit { IfOk result (λ s. (⟦<HashedStore<'a, R, H> as Store<R>>⟧.model s).limit ≡ length rows.old) }
-        ensures empty { IfOk result (λ s. (s.slots ≡ replicate (length rows.old) None) × (s.count ≡ 0) × (s.reach ≡ 0)) }
-        ensures uneven { IfErr result (λ e. e ≡ record { tags = length tags.old; rows = length rows.old }) }
-        ensures same { OnErr result ((tags.new ≡ tags.old) × (rows.new ≡ rows.old)) }
+        ensures ready { IfOk result ⟦<HashedStore<'a, R, H> as Store<R>>⟧.ready }
+        ensures empty { IfOk result (λ store. ⟦<HashedStore<'a, R, H> as Store<R>>⟧.model store
+            ≡ record { rows = []; limit = length rows.old }) }
+        ensures uneven { IfErr result (λ back. (back.tags.now ≡ tags.old) × (back.rows.now ≡ rows.old)) }
     {
+        if tags.len() != rows.len() {
+            return Err(UnevenSlots { tags, rows });
+        }
         Ok(HashedStore {
-            slots: Slots::new(tags, rows)?,
+            slots: Slots::new(tags, rows),
             count: 0,
             reach: 0,
         })

@@ -1,7 +1,7 @@
 // The slots: a row each, and beside them, in a slice of its own, a tag, which is 0 where the slot is
 // empty and else tells most keys from that of the row. The tags of many slots share a line of the
 // cache, so a search seldom looks at a row that it does not want.
-ghost use Rattle.std.specs.Prelude.{◌≡◌, ◌<◌, ◌↔◌, length, None, replicate, slice_set, IsOk, OnOk, OnErr, IfOk, IfErr};
+ghost use Rattle.std.specs.Prelude.{◌≡◌, ◌<◌, length, None, replicate, slice_set};
 ghost use Rattle.hashed_store.specs.Lent.{slots_of, Tagged};
 ghost use Rattle.hashed_store.specs.Looks.{Looked};
 ghost use Rattle.hashed_store.specs.Mixing.{tag_of};
@@ -9,7 +9,6 @@ ghost use Rattle.hashed_store.specs.Slots.{slot_at};
 
 use crate::home::Home;
 use crate::mixing::tag;
-use crate::uneven_slots::UnevenSlots;
 use std::marker::Model;
 use store::record::Record;
 
@@ -42,26 +41,15 @@ pub(crate) enum Look {
 }
 
 impl<'a, R: Record, H: Home> Slots<'a, R, H> {
-    // As many slots as rows are lent, and as tags, all empty.
+    // As many slots as rows are lent, and tags, all empty.
     #[tactic(auto, using(crate::proofs::Lent::blank_slots, crate::proofs::Lent::tagged_blank))]
-    pub(crate) fn new(
-        tags: &'a mut [u8],
-        rows: &'a mut [R],
-    ) -> Result<Slots<'a, R, H>, UnevenSlots>
-        ensures even { IsOk result ↔ (length tags.old ≡ length rows.old) }
-        ensures empty { IfOk result (λ slots. slots ≡ replicate (length rows.old) None) }
-        ensures uneven { IfErr result (λ e. e ≡ record { tags = length tags.old; rows = length rows.old }) }
-        ensures same { OnErr result ((tags.new ≡ tags.old) × (rows.new ≡ rows.old)) }
+    pub(crate) fn new(tags: &'a mut [u8], rows: &'a mut [R]) -> Slots<'a, R, H>
+        requires { length tags.old ≡ length rows.old }
+        ensures { result ≡ replicate (length rows.old) None }
     {
-        if tags.len() != rows.len() {
-            return Err(UnevenSlots {
-                tags: tags.len(),
-                rows: rows.len(),
-            });
-        }
         tags.fill(0);
         let home = H::new(rows.len());
-        Ok(Slots { tags, rows, home })
+        Slots { tags, rows, home }
     }
 
     #[tactic(auto, using(crate::proofs::Lent::length_slots))]
