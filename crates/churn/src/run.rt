@@ -101,8 +101,7 @@ impl<'a, 'o, W: Write> Bench<'a, 'o, W> {
         let slots = self.asked.sizes.slots;
         let mut tags = vec![in self.rt.alloc(); 0u8; slots]?;
         let mut rows = vec![in self.rt.alloc(); Order::BLANK; slots]?;
-        let Ok(below) =
-            HashedStore::<Order, H>::new(tags.as_mut_slice(), rows.as_mut_slice())
+        let Ok(below) = HashedStore::<Order, H>::new(tags.as_mut_slice(), rows.as_mut_slice())
         else {
             unreachable!()
         };

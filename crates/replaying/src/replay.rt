@@ -89,7 +89,10 @@ fn over_slots<H: Home, R: BufRead, W: Write>(
     let mut executions = vec![in heap; Execution::BLANK; execution_slots]?;
     let mut symbols = vec![in heap; SymbolRow::BLANK; symbol_slots]?;
     let orders = hashed::<Order, H>(order_tags.as_mut_slice(), orders.as_mut_slice());
-    let executions = hashed::<Execution, H>(execution_tags.as_mut_slice(), executions.as_mut_slice());
+    let executions = hashed::<Execution, H>(
+        execution_tags.as_mut_slice(),
+        executions.as_mut_slice(),
+    );
     let symbols = hashed::<SymbolRow, H>(symbol_tags.as_mut_slice(), symbols.as_mut_slice());
     let orders = Capped::new(orders, room.orders);
     let executions = Capped::new(executions, room.executions);
@@ -104,10 +107,7 @@ fn over_slots<H: Home, R: BufRead, W: Write>(
 }
 
 // A store over slots of which there are as many tags as rows.
-fn hashed<'a, R: Record, H: Home>(
-    tags: &'a mut [u8],
-    rows: &'a mut [R],
-) -> HashedStore<'a, R, H>
+fn hashed<'a, R: Record, H: Home>(tags: &'a mut [u8], rows: &'a mut [R]) -> HashedStore<'a, R, H>
     requires { length tags.old ≡ length rows.old }
     ensures limit { (⟦<HashedStore<'a, R, H> as Store<R>>⟧.model result).limit ≡ length rows.old }
 {
