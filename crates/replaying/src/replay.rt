@@ -82,12 +82,13 @@ fn over_slots<H: Home, R: BufRead, W: Write>(
     let order_slots = slots(room.orders) as usize;
     let execution_slots = slots(room.executions) as usize;
     let symbol_slots = slots(room.symbols) as usize;
-    let mut order_tags = vec![in heap; 0u8; order_slots]?;
-    let mut execution_tags = vec![in heap; 0u8; execution_slots]?;
-    let mut symbol_tags = vec![in heap; 0u8; symbol_slots]?;
+    // The rows first, since they take most: where there is no memory for them, it shows at once.
     let mut orders = vec![in heap; Order::BLANK; order_slots]?;
     let mut executions = vec![in heap; Execution::BLANK; execution_slots]?;
     let mut symbols = vec![in heap; SymbolRow::BLANK; symbol_slots]?;
+    let mut order_tags = vec![in heap; 0u8; order_slots]?;
+    let mut execution_tags = vec![in heap; 0u8; execution_slots]?;
+    let mut symbol_tags = vec![in heap; 0u8; symbol_slots]?;
     let orders = hashed::<Order, H>(order_tags.as_mut_slice(), orders.as_mut_slice());
     let executions = hashed::<Execution, H>(
         execution_tags.as_mut_slice(),
