@@ -38,10 +38,11 @@ depth-joined (o ∷ os) =
     ap (depth_with (depth_given o)) (depth-joined os)
     ∙ (λ i. record { orders = one-more (length os) i; shares = totals-stop o.shares (sum (λ o. o.shares) os) i })
 
--- no order at all is none of those picked
-pub none_rest : (p : Order → Bool) (os : List Order) → length os ≡ 0 → depth_of [] ≡ depth_of (those p os)
-none_rest p [] e = refl
-none_rest p (o ∷ os) e = absurd (omega arith)
+-- of the orders that a test picks
+pub picked_depth : (p : Order → Bool) (os : List Order) → joined_all (depth_of []) depth_with (map (λ o. cond (p o) (depth_given o) (depth_of [])) os) ≡ depth_of (those p os)
+picked_depth p os =
+    picked-joined p depth_given (depth_of []) depth_with (λ x i. record { orders = neutral x.orders i; shares = neutral x.shares i }) os
+    ∙ depth-joined (those p os)
 
 -- the tally of turnovers
 abbrev turnover_with : Turnover → Turnover → Turnover

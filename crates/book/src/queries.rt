@@ -15,10 +15,8 @@ use records::order::Order;
 use records::symbol_row::SymbolRow;
 use store::picked::Picked;
 use store::store::Store;
-use store::sweep::remove_picked;
 use store::walk::walk;
 use tally::both::Both;
-use tally::tally::Tally;
 
 // What rests of a symbol on a side.
 pub fn book<S: Store<Order>>(orders: &S, symbol: u64, side: Side) -> Book
@@ -60,26 +58,30 @@ fn side<const BUYS: bool>() -> Side
     if BUYS { Side::Buy } else { Side::Sell }
 }
 
-// Removes all orders of a symbol, and answers what they were. Nothing is gone through where no order is held.
-#[tactic(auto, using(crate::proofs::Sums::none_rest))]
+/// Takes all orders of a symbol off the book, and answers how many they were and their shares:
+/// the walk tells what they come to, and then they are removed.
 pub fn clear<S: Store<Order>>(orders: &mut S, symbol: u64) -> Depth
-    ensures says { S.Store.ready orders.old → result ≡ depth_of (those (is_of symbol) (S.Store.model orders.old).rows) }
-    ensures leaves { S.Store.ready orders.old → S.Store.model orders.new ≡ sweeping (is_of symbol) (S.Store.model orders.old) }
+    ensures says { S.Store.ready orders.old
+        → result ≡ depth_of (those (is_of symbol) (S.Store.model orders.old).rows) }
+    ensures leaves { S.Store.ready orders.old
+        → S.Store.model orders.new ≡ sweeping (is_of symbol) (S.Store.model orders.old) }
     ensures still { S.Store.ready orders.old → S.Store.ready orders.new }
 {
-    if orders.count() == 0 {
-        return Depth::empty();
-    }
-    removed(orders, symbol)
+    let cleared = measure_depth(orders, symbol);
+    orders.sweep(&OfSymbol { symbol });
+    cleared
 }
 
-// The same, by going through the store.
-fn removed<S: Store<Order>>(orders: &mut S, symbol: u64) -> Depth
-    ensures says { S.Store.ready orders.old → result ≡ depth_of (those (is_of symbol) (S.Store.model orders.old).rows) }
-    ensures leaves { S.Store.ready orders.old → S.Store.model orders.new ≡ sweeping (is_of symbol) (S.Store.model orders.old) }
-    ensures still { S.Store.ready orders.old → S.Store.ready orders.new }
+// How many orders of a symbol there are, and their shares, by the walk.
+fn measure_depth<S: Store<Order>>(orders: &S, symbol: u64) -> Depth
+    ensures { S.Store.ready orders.now
+        → result ≡ depth_of (those (is_of symbol) (S.Store.model orders.now).rows) }
 {
-    remove_picked(orders, &OfSymbol { symbol }, &DepthOf)
+    let resting = Picked {
+        pick: OfSymbol { symbol },
+        measure: DepthOf,
+    };
+    walk(orders, &resting)
 }
 
 // What all symbols have traded.

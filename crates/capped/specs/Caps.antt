@@ -6,7 +6,7 @@ use Rattle.capped.specs.declared.capped.Capped.{Capped}
 
 -- the same records under the lesser limit
 abbrev pub within : {X : Type 0} → ℕ → Model X → Model X
-within allotment m = record { rows = m.rows; limit = min allotment m.limit }
+within allotment m = record m { limit = min allotment m.limit }
 
 abbrev pub model_of : {S X : Type 0} → Ghosts S X → Capped S → Model X
 model_of s c = within c.allotment (s.model c.below)

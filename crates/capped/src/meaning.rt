@@ -7,7 +7,6 @@ use store::record::Record;
 use store::refusal::{InsertRefusal, ReplaceRefusal};
 use store::store::Store;
 use store::visit::Visit;
-use tally::measure::Measure;
 
 impl<R: Record, S: Store<R>> Store<R> for Capped<S> {
     ghost model = { model_of S.Store };
@@ -61,7 +60,7 @@ impl<R: Record, S: Store<R>> Store<R> for Capped<S> {
         self.below.empty();
     }
 
-    fn sweep<P: Pick<R>, M: Measure<R>>(&mut self, pick: &P, measure: &M) -> M::Out {
-        self.below.sweep(pick, measure)
+    fn sweep<P: Pick<R>>(&mut self, pick: &P) {
+        self.below.sweep(pick);
     }
 }

@@ -1,9 +1,8 @@
 // The front row is a store: it means what the store below means.
-ghost use Rattle.std.specs.Prelude.{◌≡◌, map, Some};
+ghost use Rattle.std.specs.Prelude.{◌≡◌, Some};
 ghost use Rattle.records.specs.declared.order.Order.{Order};
 ghost use Rattle.records.specs.Keys.{order_key};
-ghost use Rattle.tally.specs.Joining.{joined_all};
-ghost use Rattle.store.specs.Lists.{lookup, those};
+ghost use Rattle.store.specs.Lists.{lookup};
 ghost use Rattle.store.specs.Models.{insert_says, inserted, replace_says, replacing, removing, sweeping, emptied};
 ghost use Rattle.front_row.specs.Fronts.{standing, taken, unfronted, cleared, swept};
 ghost use Rattle.front_row.specs.Rows.{model_of, ahead_of, Ready};
@@ -14,8 +13,6 @@ use store::pick::Pick;
 use store::refusal::{InsertRefusal, ReplaceRefusal};
 use store::store::Store;
 use store::visit::Visit;
-use tally::measure::Measure;
-use tally::tally::Tally;
 
 impl<S: Store<Order>> Store<Order> for FrontRow<S> {
     ghost model = { model_of S.Store };
@@ -58,7 +55,6 @@ impl<S: Store<Order>> Store<Order> for FrontRow<S> {
         Ok(())
     }
 
-    // As `insert`: the trait states each with its own refusal, so one text for both would be no shorter.
     #[tactic(auto, using(crate::proofs::Agreement::unreplaced))]
     fn replace(&mut self, item: Order) -> Result<(), ReplaceRefusal>
         ensures says { Ready S.Store self.old → result ≡ replace_says order_key item (model_of S.Store self.old) }
@@ -91,14 +87,15 @@ impl<S: Store<Order>> Store<Order> for FrontRow<S> {
         self.front.clear();
     }
 
-    fn sweep<P: Pick<Order>, M: Measure<Order>>(&mut self, pick: &P, measure: &M) -> M::Out
-        ensures says { Ready S.Store self.old → result ≡ joined_all M.Out.Tally.none M.Out.Tally.joining (map (M.Measure.given measure.now) (those (P.Pick.picked pick.now) (model_of S.Store self.old).rows)) }
-        ensures leaves { Ready S.Store self.old → model_of S.Store self.new ≡ sweeping (P.Pick.picked pick.now) (model_of S.Store self.old) }
+    fn sweep<P: Pick<Order>>(&mut self, pick: &P)
+        ensures leaves { Ready S.Store self.old
+            → model_of S.Store self.new
+            ≡ sweeping (P.Pick.picked pick.now) (model_of S.Store self.old) }
         ensures still { Ready S.Store self.old → Ready S.Store self.new }
-        ensures front { self.new.front.places ≡ swept (P.Pick.picked pick.now) self.old.front.places }
+        ensures front { self.new.front.places
+            ≡ swept (P.Pick.picked pick.now) self.old.front.places }
     {
-        let given = self.below.sweep(pick, measure);
+        self.below.sweep(pick);
         self.front.sweep(pick);
-        given
     }
 }

@@ -11,7 +11,7 @@ use Rattle.store.specs.Lists.{Rising, lookup, holds}
 use Rattle.store.specs.Models.{insert_says, inserted, replace_says, replacing, removing}
 use Rattle.store.specs.declared.refusal.InsertRefusal.TheVariants.{Taken, Full}
 use Rattle.store.specs.declared.refusal.ReplaceRefusal.TheVariants.{Missing}
-use Rattle.store.proofs.Default.{same-model}
+use Rattle.store.proofs.ModelsLemmas.{same-model}
 use Rattle.row_store.specs.Places.{Stands, Goes, Sought}
 use Rattle.row_store.specs.Rows.{InOrder, Changed}
 use Rattle.row_store.proofs.Places.{held-where-found, not-held, found, missing, replaced-found, replaced-missing, rising-set, placed-missing, rising-inserted, without-found, without-missing, rising-removed}

@@ -11,7 +11,7 @@ pub record Swept {X : Type 0} (p : X → Bool) (xs ys : List X) (k i : ℕ) : Ty
   pub rest : drop i ys ≡ drop i xs
 
 module _ {X : Type 0} (p : X → Bool) (xs ys : List X) (k i : ℕ) (x : X) (long : length ys ≡ length xs) (inside : i < length xs) (h : Swept p xs ys k i) (read : x ≡ get_or ys i x) where
-  pub one-more : take (i + 1) xs ≡ take i xs ++ (x ∷ [])
+  one-more : take (i + 1) xs ≡ take i xs ++ (x ∷ [])
   one-more =
       let rest = h.rest in
       let was = drop_more xs i x inside in

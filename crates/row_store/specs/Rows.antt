@@ -15,6 +15,12 @@ InOrder key n xs = (n ≤ length xs) × Rising key (take n xs)
 abbrev pub from : {X : Type 0} → List X → ℕ → List X
 from xs p = drop p xs
 
+-- what a call leaves, as the model has it: before it the first n of xs hold records, and after it
+-- the first m of ys
+pub record Left {X : Type 0} (key : X → ℕ) (left : Model X → Model X) (n m : ℕ) (xs ys : List X) : Type 0 where
+  pub leaves : model_of m ys ≡ left (model_of n xs)
+  pub still : InOrder key m ys
+
 -- what a call answers and leaves, as the model has them: before it the first n of xs hold records, and after it the first m of ys
 pub record Changed {X A : Type 0} (key : X → ℕ) (told : Model X → A) (left : Model X → Model X) (answer : A) (n m : ℕ) (xs ys : List X) : Type 0 where
   pub says : answer ≡ told (model_of n xs)

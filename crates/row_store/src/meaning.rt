@@ -10,7 +10,6 @@ use store::record::Record;
 use store::refusal::{InsertRefusal, ReplaceRefusal};
 use store::store::Store;
 use store::visit::Visit;
-use tally::measure::Measure;
 
 impl<'a, R: Record> Store<R> for RowStore<'a, R> {
     ghost model = { λ s. model_of s.count s.rows.now };
@@ -55,7 +54,7 @@ impl<'a, R: Record> Store<R> for RowStore<'a, R> {
         self.count = 0;
     }
 
-    fn sweep<P: Pick<R>, M: Measure<R>>(&mut self, pick: &P, measure: &M) -> M::Out {
-        sweep_rows(self.rows, &mut self.count, pick, measure)
+    fn sweep<P: Pick<R>>(&mut self, pick: &P) {
+        sweep_rows(self.rows, &mut self.count, pick);
     }
 }

@@ -1,8 +1,5 @@
-// Moving the rows from a place on up by one, or down by one.
-//
-// This is `copy_within` at two shapes. Tried in their place it is too slow: inlined behind the search it slows the search down, and adds and removes
-// take up to 11 parts in 100 longer, behind a front row up to 69. With `#[inline(never)]` on the two functions they take as long as by these loops where
-// 64 orders live, but where 8 live, 7 to 26 parts in 100 longer, and with it on the search instead, 10 to 13.
+//! Moving the rows from a place on up by one, or down by one: loops, and not `copy_within`, which
+//! makes the search before it slower (docs/DECISIONS.md).
 ghost use Rattle.std.specs.Prelude.{◌≡◌, ◌+◌, ◌<◌, ◌≤◌, length};
 ghost use Rattle.std.specs.List.{copy_within};
 

@@ -1,11 +1,9 @@
--- What generic code over any store comes to.
-use Rattle.std.proofs.Common.{◌≡◌, ℕ, false, eqb, leb, List, [], ◌∷◌, length, Ok, ap, ⊎_elim}
+-- When an insert is accepted.
+use Rattle.std.proofs.Common.{◌≡◌, ℕ, false, eqb, leb, List, [], ◌∷◌, length, Ok, ⊎_elim}
 use Rattle.std.proofs.lemmas.Bool.{cases_Bool, eqb-false}
-use Rattle.store.specs.Clients.{inserted_found}
-use Rattle.store.specs.Lists.{lookup, holds}
-use Rattle.store.specs.Models.{Model, insert_says, inserted}
+use Rattle.store.specs.Lists.{holds}
+use Rattle.store.specs.Models.{Model, insert_says}
 use Rattle.store.proofs.Each.{Absent}
-use Rattle.store.proofs.Placed.{lookup-placed}
 
 module _ {X : Type 0} (key : X → ℕ) where
   pub absent-unheld : (k : ℕ) (xs : List X) → holds key k xs ≡ false → Absent key k xs
@@ -25,8 +23,3 @@ module _ {X : Type 0} (key : X → ℕ) where
       let f = rw h at e in
       ⊎_elim (λ l. let z = rw l at f in cc) (λ l. (h, l)) (cases_Bool (leb m.limit (length m.rows))))
       (cases_Bool (holds key (key r) m.rows))
-
-  pub found-inserted : (r : X) (m : Model X) (u : Unit {0}) → Ok u ≡ insert_says key r m → Ok (lookup key (key r) (inserted key r m).rows) ≡ inserted_found key r m
-  found-inserted r m u e =
-      let a = accepted r m u e in
-      rw (a.0, a.1) (ap Ok (lookup-placed key r m.rows (absent-unheld (key r) m.rows a.0)))

@@ -1,5 +1,6 @@
 pub mod Inserting
 pub mod Each
+pub mod ModelsLemmas
 pub mod Keyed
 pub mod Picking
 pub mod Placed
@@ -7,7 +8,6 @@ pub mod Sorting
 pub mod Reorderings
 pub mod Sweeps
 pub mod Walking
-pub mod Default
 pub mod Gathering
 pub mod Listing
 pub mod Lookups

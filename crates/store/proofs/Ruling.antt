@@ -1,16 +1,16 @@
 -- The rules of a store hold of its definitions.
-use Rattle.std.proofs.Common.{◌≡◌, ℕ, suc, ◌<◌, ◌≤◌, Bool, true, false, leb, List, [], ◌∷◌, length, is_some, Some, None, Ok, sym, refl, ap, ◌∙◌, ⊎_elim, arith}
+use Rattle.std.proofs.Common.{◌≡◌, ℕ, suc, ◌<◌, ◌≤◌, Bool, true, false, cond, leb, List, [], ◌∷◌, length, is_some, Some, None, Ok, sym, refl, ap, ◌∙◌, ⊎_elim, arith}
 use Rattle.std.proofs.lemmas.Bool.{eq-eqb, ne_eqb, le-leb, lt-leb, leb-true, leb-false, cases_eq, cases_lt, cases_Bool, cases_order}
 use Rattle.store.specs.Lists.{Each, Rising, lookup, holds, first_from, replaced, without, others}
 use Rattle.store.specs.Models.{Model, insert_says, inserted, replacing}
-use Rattle.store.specs.Rules.{Stored, Least, Rules}
+use Rattle.store.specs.Rules.{Stored, unless_picked, Least, Rules}
 use Rattle.store.proofs.Each.{Absent, each-so, absent-higher, higher-more}
 use Rattle.store.proofs.Keyed.{lookup_absent, replaced-absent}
 use Rattle.store.proofs.Placed.{rising-placed, length-placed}
 use Rattle.store.proofs.Inserting.{absent-unheld, accepted}
-use Rattle.store.proofs.Lookups.{lookup-here, lookup-later, lookup-inserted, lookup-placed-other, lookup-replaced, lookup-replaced-other, lookup-without-other, lookup-others}
-use Rattle.store.proofs.Default.{same-model}
-use Rattle.store.proofs.Sweeps.{each-others}
+use Rattle.store.proofs.Lookups.{lookup-here, lookup-later, lookup-inserted, lookup-placed-other, lookup-replaced, lookup-replaced-other, lookup-without-other}
+use Rattle.store.proofs.ModelsLemmas.{same-model}
+use Rattle.store.proofs.Sweeps.{each-others, rising-others}
 
 module _ {X : Type 0} (key : X → ℕ) where
   absent_none : (k : ℕ) (xs : List X) → lookup key k xs ≡ None → Absent key k xs
@@ -79,19 +79,23 @@ module _ {X : Type 0} (key : X → ℕ) where
       (λ e. rw (ne_eqb (key x) k e) (lookup-later key k x (without key k xs) e ∙ lookup-gone k xs h.1))
       (cases_eq (key x) k)
 
-  -- a record that is picked is found no more
-  pub lookup-swept : (p : X → Bool) (x : X) (xs : List X) → Rising key xs → lookup key (key x) xs ≡ Some x → p x ≡ true → lookup key (key x) (others p xs) ≡ None
-  lookup-swept p x [] h e t = refl
-  lookup-swept p x (y ∷ ys) h e t =
+  -- under each key is found what was found there, unless the test picks it
+  pub lookup-unpicked : (p : X → Bool) (k : ℕ) (xs : List X) → Rising key xs → lookup key k (others p xs) ≡ unless_picked p (lookup key k xs)
+  lookup-unpicked p k [] h = refl
+  lookup-unpicked p k (x ∷ xs) h =
       ⊎_elim
-      (λ m.
-      let s : y ≡ x = (let f = lookup-here key (key x) y ys m in cc) in
-      let ty : p y ≡ true = ap p s ∙ t in
-      rw ty (lookup_absent key (key x) (others p ys) (absent-higher key (key x) (others p ys) (each-others p (λ z. key x < key z) ys (rw m at h.0)))))
-      (λ m.
-      let rest = lookup-swept p x ys h.1 (sym (lookup-later key (key x) y ys m) ∙ e) t in
-      ⊎_elim (λ q. rw q rest) (λ q. rw q (lookup-later key (key x) y (others p ys) m ∙ rest)) (cases_Bool (p y)))
-      (cases_eq (key y) (key x))
+      (λ e.
+      let here = lookup-here key k x xs e in
+      let gone = lookup_absent key k (others p xs) (absent-higher key k (others p xs) (each-others p (λ z. k < key z) xs (rw e at h.0))) in
+      let told : unless_picked p (lookup key k (x ∷ xs)) ≡ cond (p x) None (Some x) = ap (unless_picked p) here in
+      ⊎_elim
+      (λ t. let n : unless_picked p (lookup key k (x ∷ xs)) ≡ None = rw t at told in rw t (gone ∙ sym n))
+      (λ t. let n : unless_picked p (lookup key k (x ∷ xs)) ≡ Some x = rw t at told in rw t (lookup-here key k x (others p xs) e ∙ sym n))
+      (cases_Bool (p x)))
+      (λ n.
+      let later = lookup-unpicked p k xs h.1 ∙ ap (unless_picked p) (sym (lookup-later key k x xs n)) in
+      ⊎_elim (λ t. rw t later) (λ t. rw t (lookup-later key k x (others p xs) n ∙ later)) (cases_Bool (p x)))
+      (cases_eq (key x) k)
 
   from_found : (xs : List X) (k : ℕ) (r : X) → Rising key xs → first_from key k xs ≡ Some r → Least key k xs r
   from_found [] k r h e = cc
@@ -193,7 +197,8 @@ module _ {X : Type 0} (key : X → ℕ) where
       none = lookup-gone k m.rows up;
       rest = record { others = λ j n. lookup-without-other key j k m.rows (λ s. n (sym s)); rising = rising-without k m.rows up; limit = refl };
     };
-    sweep = λ m p x up e. ((λ t. lookup-others key p (key x) x m.rows t e), (λ t. lookup-swept p x m.rows up e t));
+    sweep = λ m p up. record { found = λ k. lookup-unpicked p k m.rows up; rising = rising-others p key m.rows up; limit = refl };
+    empty = λ m. record { none = λ k. refl; rising = tt; count = refl; limit = refl };
     from = from_found;
     none = λ xs k e x f. found-each (λ z. key z < k) (key x) xs x (from-none xs k e) f;
     determined = told;

@@ -12,7 +12,7 @@ pub record Model (X : Type 0) : Type 0 where
 
 -- the same store with other records: no call changes the limit
 abbrev pub holding : {X : Type 0} → List X → Model X → Model X
-holding xs m = record { rows = xs; limit = m.limit }
+holding xs m = record m { rows = xs }
 
 -- insert: taken if the key is held, then full if the count is at or above the limit
 abbrev pub insert_says : {X : Type 0} → (X → ℕ) → X → Model X → Result (Unit {0}) InsertRefusal

@@ -1,9 +1,10 @@
--- What the calls of a store come to, in words of what is found: with `determined`, these rules alone fix the list.
-use Rattle.std.specs.Prelude.{◌≡◌, ℕ, ◌+◌, ◌<◌, ◌≤◌, Bool, true, false, List, length, Some, None, Ok, Err, ◌≢◌}
+-- What the calls of a store come to, in words of what is found: with `determined`, these rules
+-- alone fix the list, and each says what becomes of the limit.
+use Rattle.std.specs.Prelude.{◌≡◌, ℕ, ◌+◌, ◌<◌, ◌≤◌, Bool, cond, List, length, Some, None, Ok, Err, Option, ◌≢◌}
 use Rattle.store.specs.declared.refusal.InsertRefusal.TheVariants.{Taken, Full}
 use Rattle.store.specs.declared.refusal.ReplaceRefusal.TheVariants.{Missing}
 use Rattle.store.specs.Lists.{Rising, lookup, first_from}
-use Rattle.store.specs.Models.{Model, insert_says, inserted, replace_says, replacing, removing, sweeping}
+use Rattle.store.specs.Models.{Model, insert_says, inserted, replace_says, replacing, removing, sweeping, emptied}
 
 -- every key but k is found as before, the keys rise, and the limit is the same
 pub record OthersStay {X : Type 0} (key : X → ℕ) (k : ℕ) (before after : Model X) : Type 0 where
@@ -22,6 +23,25 @@ pub record Gone {X : Type 0} (key : X → ℕ) (k : ℕ) (before after : Model X
   pub none : lookup key k after.rows ≡ None
   pub rest : OthersStay key k before after
 
+-- what was found, unless the test picks it
+abbrev pub unless_picked : {X : Type 0} → (X → Bool) → Option X → Option X
+unless_picked p None = None
+unless_picked p (Some x) = cond (p x) None (Some x)
+
+-- Under each key is found what was found there, unless the test picks it: so no key is new. The
+-- keys rise, and the limit is the same.
+pub record Swept {X : Type 0} (key : X → ℕ) (p : X → Bool) (before after : Model X) : Type 0 where
+  pub found : (k : ℕ) → lookup key k after.rows ≡ unless_picked p (lookup key k before.rows)
+  pub rising : Rising key after.rows
+  pub limit : after.limit ≡ before.limit
+
+-- nothing is found, none is counted, and the limit is the same
+pub record Emptied {X : Type 0} (key : X → ℕ) (before after : Model X) : Type 0 where
+  pub none : (k : ℕ) → lookup key k after.rows ≡ None
+  pub rising : Rising key after.rows
+  pub count : length after.rows ≡ 0
+  pub limit : after.limit ≡ before.limit
+
 -- r is found, at or above k, and no record that is found at or above k has a lower key
 pub record Least {X : Type 0} (key : X → ℕ) (k : ℕ) (xs : List X) (r : X) : Type 0 where
   pub found : lookup key (key r) xs ≡ Some r
@@ -37,8 +57,8 @@ pub record Rules {X : Type 0} (key : X → ℕ) : Type 0 where
   pub replace : (m : Model X) (r x : X) → Rising key m.rows → lookup key (key r) m.rows ≡ Some x → (replace_says key r m ≡ Ok tt) × Stored key r m (replacing key r m) 0
   pub missing : (m : Model X) (r : X) → lookup key (key r) m.rows ≡ None → (replace_says key r m ≡ Err Missing) × (replacing key r m ≡ m)
   pub remove : (m : Model X) (k : ℕ) → Rising key m.rows → Gone key k m (removing key k m)
-  pub sweep : (m : Model X) (p : X → Bool) (x : X) → Rising key m.rows → lookup key (key x) m.rows ≡ Some x
-      → (p x ≡ false → lookup key (key x) (sweeping p m).rows ≡ Some x) × (p x ≡ true → lookup key (key x) (sweeping p m).rows ≡ None)
+  pub sweep : (m : Model X) (p : X → Bool) → Rising key m.rows → Swept key p m (sweeping p m)
+  pub empty : (m : Model X) → Emptied key m (emptied m)
   pub from : (xs : List X) (k : ℕ) (r : X) → Rising key xs → first_from key k xs ≡ Some r → Least key k xs r
   pub none : (xs : List X) (k : ℕ) → first_from key k xs ≡ None → (x : X) → lookup key (key x) xs ≡ Some x → key x < k
   pub determined : (xs ys : List X) → Rising key xs → Rising key ys → ((k : ℕ) → lookup key k xs ≡ lookup key k ys) → xs ≡ ys

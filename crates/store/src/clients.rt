@@ -1,24 +1,12 @@
 // What any store does by its meaning alone.
 ghost use Rattle.std.specs.Prelude.{◌≡◌, ◌≤◌, List, length, take};
-ghost use Rattle.store.specs.Clients.{inserted_found, Listed};
+ghost use Rattle.store.specs.Clients.{Listed};
 ghost use Rattle.store.specs.Lists.{Rising};
 ghost use Rattle.store.specs.Visits.{Covers};
 ghost use Rattle.tally.specs.Joining.{IsReordering};
 
 use crate::record::{Record, next_key};
-use crate::refusal::InsertRefusal;
 use crate::store::Store;
-
-// What is found under a record's key once the record is inserted: that record.
-pub fn insert_then_find<R: Record, S: Store<R>>(
-    store: &mut S,
-    item: R,
-) -> Result<Option<R>, InsertRefusal>
-    ensures { S.Store.ready store.old → result ≡ inserted_found R.Record.key item (S.Store.model store.old) }
-{
-    store.insert(item)?;
-    Ok(store.find(item.key()))
-}
 
 // Writes the records into a row by rising key, and answers how many: the list, or as much of it as fits.
 pub fn list_into<R: Record, S: Store<R>>(store: &S, row: &mut [R]) -> usize

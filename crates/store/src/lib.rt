@@ -8,6 +8,5 @@ pub mod record;
 pub mod refusal;
 pub mod rules;
 pub mod store;
-pub mod sweep;
 pub mod visit;
 pub mod walk;
