@@ -16,7 +16,6 @@ use store::record::Record;
 use store::refusal::{InsertRefusal, ReplaceRefusal};
 use store::store::Store;
 use store::visit::Visit;
-use tally::measure::Measure;
 
 /// A store over lent slots, which holds as many records as there are slots. The search for a key
 /// starts at its home: the key modulo the number of slots, where no other home is named.
@@ -103,9 +102,7 @@ impl<'a, R: Record, H: Home> Store<R> for HashedStore<'a, R, H> {
         self.reach = 0;
     }
 
-    fn sweep<P: Pick<R>, M: Measure<R>>(&mut self, pick: &P, measure: &M) -> M::Out {
-        let swept = sweep_slots(&mut self.slots, self.count, self.reach, pick, measure);
-        self.count = swept.left;
-        swept.given
+    fn sweep<P: Pick<R>>(&mut self, pick: &P) {
+        self.count = sweep_slots(&mut self.slots, self.count, self.reach, pick);
     }
 }
