@@ -3,7 +3,7 @@ use Rattle.std.specs.Prelude.{ℕ, Bool, true, false, cond, List, Some, None, Op
 use Rattle.std.specs.Str.{bytes_eq}
 use Rattle.options.specs.declared.options.Stores.{Stores}
 use Rattle.words.specs.declared.kind.Kind.{Kind}
-use Rattle.words.specs.declared.kind.Kind.TheVariants.{Row, Hashed}
+use Rattle.words.specs.declared.kind.Kind.TheVariants.{Row, Hashed, Spread}
 use Rattle.words.specs.Kinds.{kind_meant}
 use Rattle.churn.specs.declared.load.Load.{Load}
 use Rattle.churn.specs.declared.load.Load.TheVariants.{Gaps, Queue, Rising, Scattered}
@@ -11,8 +11,10 @@ use Rattle.churn.specs.declared.load.Load.TheVariants.{Gaps, Queue, Rising, Scat
 abbrev pub named : (front : Bool) → Kind → List ℕ
 named false Row = codes "row"
 named false Hashed = codes "hashed"
+named false Spread = codes "spread"
 named true Row = codes "front-row"
 named true Hashed = codes "front-hashed"
+named true Spread = codes "front-spread"
 
 abbrev pub store_name : Stores → List ℕ
 store_name s = named s.front s.kind

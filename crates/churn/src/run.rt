@@ -13,6 +13,9 @@ use crate::stores::{STORES, store_name};
 use crate::watch::Watch;
 use front_row::front_row::FrontRow;
 use hashed_store::hashed::HashedStore;
+use hashed_store::home::Home;
+use hashed_store::modulo::Modulo;
+use hashed_store::spread::Spread;
 use options::options::Stores;
 use records::order::Order;
 use row_store::row::RowStore;
@@ -81,22 +84,28 @@ impl<'a, 'o, W: Write> Bench<'a, 'o, W> {
         let name = store_name(store);
         writeln!(self.output, "(store {name})")?;
         let slots = self.asked.sizes.slots;
-        // An arm for each sort of memory, since a store borrows it. `store_calls` has the same two, and does something else over the stores.
+        // An arm for each sort of memory, since a store borrows it. `store_calls` has the same, and does something else over the stores.
         match store.kind {
             Kind::Row => {
                 let mut rows = vec![in self.rt.alloc(); Order::BLANK; slots]?;
                 self.run_over(store.front, RowStore::new(rows.as_mut_slice()))?;
             }
-            Kind::Hashed => {
-                let mut tags = vec![in self.rt.alloc(); 0u8; slots]?;
-                let mut rows = vec![in self.rt.alloc(); Order::BLANK; slots]?;
-                self.run_over(
-                    store.front,
-                    HashedStore::new(tags.as_mut_slice(), rows.as_mut_slice()),
-                )?;
-            }
+            Kind::Hashed => self.run_over_slots::<Modulo>(store.front)?,
+            Kind::Spread => self.run_over_slots::<Spread>(store.front)?,
         }
         Ok(())
+    }
+
+    // Lends new slots to a store with such homes.
+    fn run_over_slots<H: Home>(&mut self, front: bool) -> io::Result<()> {
+        let slots = self.asked.sizes.slots;
+        let mut tags = vec![in self.rt.alloc(); 0u8; slots]?;
+        let mut rows = vec![in self.rt.alloc(); Order::BLANK; slots]?;
+        let Ok(below) = HashedStore::<Order, H>::new(tags.as_mut_slice(), rows.as_mut_slice())
+        else {
+            unreachable!()
+        };
+        self.run_over(front, below)
     }
 
     // Behind a front, or plain.

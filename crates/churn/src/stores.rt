@@ -5,13 +5,17 @@ ghost use Rattle.churn.specs.Names.{store_name, store_meant};
 use options::options::Stores;
 use words::kind::{Kind, kind_of};
 
-pub const STORES: [Stores; 4] = [
+pub const STORES: [Stores; 6] = [
     Stores {
         kind: Kind::Row,
         front: false,
     },
     Stores {
         kind: Kind::Hashed,
+        front: false,
+    },
+    Stores {
+        kind: Kind::Spread,
         front: false,
     },
     Stores {
@@ -20,6 +24,10 @@ pub const STORES: [Stores; 4] = [
     },
     Stores {
         kind: Kind::Hashed,
+        front: true,
+    },
+    Stores {
+        kind: Kind::Spread,
         front: true,
     },
 ];
@@ -30,8 +38,10 @@ pub fn store_name(store: Stores) -> &'static str
     match (store.front, store.kind) {
         (false, Kind::Row) => "row",
         (false, Kind::Hashed) => "hashed",
+        (false, Kind::Spread) => "spread",
         (true, Kind::Row) => "front-row",
         (true, Kind::Hashed) => "front-hashed",
+        (true, Kind::Spread) => "front-spread",
     }
 }
 

@@ -1,26 +1,26 @@
 -- The slots that lent memory makes, read and written.
-use Rattle.std.proofs.Common.{◌≡◌, ℕ, zero, suc, ◌<◌, inl, inr, ⊎_elim, eqb, true, false, List, [], ◌∷◌, length, set, replicate, min, refl, ap, ◌∙◌, arith, Some, None, Option, get_or}
-use Rattle.std.proofs.lemmas.Bool.{eq-eqb}
-use Rattle.std.proofs.lemmas.List.{length-replicate}
+use Rattle.std.proofs.Common.{◌≡◌, ℕ, zero, suc, ◌<◌, inl, inr, ⊎_elim, eqb, true, false, List, [], ◌∷◌, length, set, replicate, refl, ap, ◌∙◌, arith, Some, None, get_or}
+use Rattle.std.proofs.lemmas.Bool.{eq-eqb, ne_eqb}
 use Rattle.hashed_store.specs.Lent.{slots_of, Tagged}
 use Rattle.hashed_store.specs.Mixing.{tag_of}
 use Rattle.hashed_store.specs.Slots.{slot_at, Other}
-use Rattle.hashed_store.proofs.Homes.{tag_used}
 
-pub length_blank : (X : Type 0) (n : ℕ) → length {A = Option X} (replicate n None) ≡ n
-length_blank X n = length-replicate n None
+tag_used : (k : ℕ) → eqb (tag_of k) 0 ≡ false
+unfolding tag_of
+tag_used k = ne_eqb _ 0 (λ e. absurd (omega arith))
 
 module _ {X : Type 0} where
-  pub length_slots : (ts : List ℕ) (rs : List X) → length (slots_of ts rs) ≡ min (length ts) (length rs)
-  length_slots [] rs = omega arith
-  length_slots (t ∷ ts) [] = omega arith
-  length_slots (t ∷ ts) (r ∷ rs) = omega (arith, length_slots ts rs)
-
   pub below_tags : (ts : List ℕ) (rs : List X) (i : ℕ) → i < length (slots_of ts rs) → i < length ts
-  below_tags ts rs i h = omega (arith, length_slots ts rs)
+  below_tags [] rs i h = absurd (omega arith)
+  below_tags (t ∷ ts) [] i h = absurd (omega arith)
+  below_tags (t ∷ ts) (r ∷ rs) zero h = omega arith
+  below_tags (t ∷ ts) (r ∷ rs) (suc i) h = omega (arith, below_tags ts rs i (omega arith))
 
   pub below_rows : (ts : List ℕ) (rs : List X) (i : ℕ) → i < length (slots_of ts rs) → i < length rs
-  below_rows ts rs i h = omega (arith, length_slots ts rs)
+  below_rows [] rs i h = absurd (omega arith)
+  below_rows (t ∷ ts) [] i h = absurd (omega arith)
+  below_rows (t ∷ ts) (r ∷ rs) zero h = omega arith
+  below_rows (t ∷ ts) (r ∷ rs) (suc i) h = omega (arith, below_rows ts rs i (omega arith))
 
   pub used_slot : (ts : List ℕ) (rs : List X) (i : ℕ) (r : X) → i < length (slots_of ts rs) → eqb (get_or ts i 0) 0 ≡ false → Some (get_or rs i r) ≡ slot_at (slots_of ts rs) i
   used_slot [] rs i r h e = absurd (omega arith)
@@ -48,32 +48,49 @@ module _ {X : Type 0} where
   emptied_slots (u ∷ ts) (x ∷ rs) zero = refl
   emptied_slots (u ∷ ts) (x ∷ rs) (suc i) = ap (λ ss. slot_at (slots_of (u ∷ []) (x ∷ [])) 0 ∷ ss) (emptied_slots ts rs i)
 
-  pub blank_slots : (n : ℕ) (rs : List X) → slots_of (replicate n 0) rs ≡ replicate (min n (length rs)) None
-  blank_slots zero rs = let none : min 0 (length rs) ≡ 0 = omega arith in rw none refl
-  blank_slots (suc n) [] = let none : min (suc n) 0 ≡ 0 = omega arith in rw none refl
-  blank_slots (suc n) (x ∷ rs) = let more : min (suc n) (suc (length rs)) ≡ suc (min n (length rs)) = omega arith in rw more (ap (λ ss. None ∷ ss) (blank_slots n rs))
+  pub blank_slots : (n : ℕ) (rs : List X) → n ≡ length rs → slots_of (replicate n 0) rs ≡ replicate (length rs) None
+  blank_slots zero [] e = refl
+  blank_slots zero (x ∷ rs) e = absurd (omega arith)
+  blank_slots (suc n) [] e = absurd (omega arith)
+  blank_slots (suc n) (x ∷ rs) e = ap (λ ss. None ∷ ss) (blank_slots n rs (omega arith))
 
-  pub blank_tags : (ts : List ℕ) (rs : List X) → slots_of (replicate (length ts) 0) rs ≡ replicate (length (slots_of ts rs)) None
-  blank_tags ts rs = rw (length_slots ts rs) (blank_slots (length ts) rs)
-
-  -- each tag stays that of its row, or 0
+  -- as many tags as rows, and each stays that of its row, or 0
   module _ (key : X → ℕ) where
-    pub tagged_blank : (n : ℕ) (rs : List X) → Tagged key (replicate n 0) rs
-    tagged_blank zero rs = tt
-    tagged_blank (suc n) [] = tt
-    tagged_blank (suc n) (x ∷ rs) = (inl refl, tagged_blank n rs)
+    even_tagged : (ts : List ℕ) (rs : List X) → Tagged key ts rs → length ts ≡ length rs
+    even_tagged [] [] h = refl
+    even_tagged [] (r ∷ rs) h = absurd h
+    even_tagged (t ∷ ts) [] h = absurd h
+    even_tagged (t ∷ ts) (r ∷ rs) h = ap suc (even_tagged ts rs h.1)
+
+    pub length_slots : (ts : List ℕ) (rs : List X) → Tagged key ts rs → length rs ≡ length (slots_of ts rs)
+    length_slots [] [] h = refl
+    length_slots [] (r ∷ rs) h = absurd h
+    length_slots (t ∷ ts) [] h = absurd h
+    length_slots (t ∷ ts) (r ∷ rs) h = ap suc (length_slots ts rs h.1)
+
+    pub blank_tags : (ts : List ℕ) (rs : List X) → Tagged key ts rs → slots_of (replicate (length ts) 0) rs ≡ replicate (length (slots_of ts rs)) None
+    blank_tags ts rs h = blank_slots (length ts) rs (even_tagged ts rs h) ∙ ap (λ n. replicate n None) (length_slots ts rs h)
+
+    pub tagged_blank : (n : ℕ) (rs : List X) → n ≡ length rs → Tagged key (replicate n 0) rs
+    tagged_blank zero [] e = tt
+    tagged_blank zero (x ∷ rs) e = absurd (omega arith)
+    tagged_blank (suc n) [] e = absurd (omega arith)
+    tagged_blank (suc n) (x ∷ rs) e = (inl refl, tagged_blank n rs (omega arith))
+
+    pub tagged_cleared : (ts : List ℕ) (rs : List X) → Tagged key ts rs → Tagged key (replicate (length ts) 0) rs
+    tagged_cleared ts rs h = tagged_blank (length ts) rs (even_tagged ts rs h)
 
     pub tagged_filled : (ts : List ℕ) (rs : List X) (i : ℕ) (r : X) → Tagged key ts rs → Tagged key (set ts i (tag_of (key r))) (set rs i r)
-    tagged_filled [] rs i r h = tt
-    tagged_filled (u ∷ ts) [] zero r h = tt
-    tagged_filled (u ∷ ts) [] (suc i) r h = tt
+    tagged_filled [] [] i r h = tt
+    tagged_filled [] (x ∷ rs) i r h = absurd h
+    tagged_filled (u ∷ ts) [] i r h = absurd h
     tagged_filled (u ∷ ts) (x ∷ rs) zero r h = (inr refl, h.1)
     tagged_filled (u ∷ ts) (x ∷ rs) (suc i) r h = (h.0, tagged_filled ts rs i r h.1)
 
     pub tagged_emptied : (ts : List ℕ) (rs : List X) (i : ℕ) → Tagged key ts rs → Tagged key (set ts i 0) rs
-    tagged_emptied [] rs i h = tt
-    tagged_emptied (u ∷ ts) [] zero h = tt
-    tagged_emptied (u ∷ ts) [] (suc i) h = tt
+    tagged_emptied [] [] i h = tt
+    tagged_emptied [] (x ∷ rs) i h = absurd h
+    tagged_emptied (u ∷ ts) [] i h = absurd h
     tagged_emptied (u ∷ ts) (x ∷ rs) zero h = (inl refl, h.1)
     tagged_emptied (u ∷ ts) (x ∷ rs) (suc i) h = (h.0, tagged_emptied ts rs i h.1)
 

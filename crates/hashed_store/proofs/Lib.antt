@@ -1,10 +1,9 @@
-pub mod Homes
 pub mod Rounds
 pub mod Lent
 pub mod Held
 pub mod Meeting
-pub mod Spread
+pub mod Straying
 pub mod Closing
-pub mod Placing
 pub mod Going
+pub mod Placing
 pub mod Sweeping

@@ -8,8 +8,9 @@ slots_of [] rows = []
 slots_of (t ∷ ts) [] = []
 slots_of (t ∷ ts) (r ∷ rs) = cond (nat_eq t 0) None (Some r) ∷ slots_of ts rs
 
--- each tag is 0, or that of its row's key
+-- as many tags as rows, and each is 0, or that of its row's key
 abbrev pub Tagged : {X : Type 0} → (X → ℕ) → List ℕ → List X → Type 0
-Tagged key [] rows = Unit {0}
-Tagged key (t ∷ ts) [] = Unit {0}
+Tagged key [] [] = Unit {0}
+Tagged key [] (r ∷ rs) = ⊥
+Tagged key (t ∷ ts) [] = ⊥
 Tagged key (t ∷ ts) (r ∷ rs) = ((t ≡ 0) ⊎ (t ≡ tag_of (key r))) × Tagged key ts rs

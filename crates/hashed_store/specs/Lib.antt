@@ -1,4 +1,6 @@
 pub mod Mixing
+pub mod Homes
+pub mod HomesLemmas
 pub mod Rounds
 pub mod Slots
 pub mod Lent

@@ -1,22 +1,25 @@
-// The slots: a row each, and beside them, in a slice of its own, a tag, which is 0 where the slot is empty and else tells most keys from that of the row.
-// The tags of many slots share a line of the cache, so a search seldom looks at a row that it does not want.
-ghost use Rattle.std.specs.Prelude.{◌≡◌, ◌<◌, length, min, Some, None, replicate, slice_set};
+// The slots: a row each, and beside them, in a slice of its own, a tag, which is 0 where the slot is
+// empty and else tells most keys from that of the row. The tags of many slots share a line of the
+// cache, so a search seldom looks at a row that it does not want.
+ghost use Rattle.std.specs.Prelude.{◌≡◌, ◌<◌, length, None, replicate, slice_set};
 ghost use Rattle.hashed_store.specs.Lent.{slots_of, Tagged};
 ghost use Rattle.hashed_store.specs.Looks.{Looked};
 ghost use Rattle.hashed_store.specs.Mixing.{tag_of};
 ghost use Rattle.hashed_store.specs.Slots.{slot_at};
 
+use crate::home::Home;
 use crate::mixing::tag;
 use std::marker::Model;
 use store::record::Record;
 
 #[derive(Drop)]
-pub(crate) struct Slots<'a, R: Record> {
+pub(crate) struct Slots<'a, R: Record, H: Home> {
     tags: &'a mut [u8],
     rows: &'a mut [R],
+    home: H,
 }
 
-impl<'a, R: Record> Model for Slots<'a, R> {
+impl<'a, R: Record, H: Home> Model for Slots<'a, R, H> {
     ghost use Rattle.std.specs.Prelude.{List, Option};
     ghost use Rattle.hashed_store.specs.Lent.{slots_of, Tagged};
 
@@ -37,21 +40,33 @@ pub(crate) enum Look {
     Other,
 }
 
-impl<'a, R: Record> Slots<'a, R> {
-    // As many slots as there are tags and rows for, all empty.
+impl<'a, R: Record, H: Home> Slots<'a, R, H> {
+    // As many slots as rows are lent, and tags, all empty.
     #[tactic(auto, using(crate::proofs::Lent::blank_slots, crate::proofs::Lent::tagged_blank))]
-    pub(crate) fn new(tags: &'a mut [u8], rows: &'a mut [R]) -> Slots<'a, R>
-        ensures { result ≡ replicate (min (length tags.old) (length rows.old)) None }
+    pub(crate) fn new(tags: &'a mut [u8], rows: &'a mut [R]) -> Slots<'a, R, H>
+        requires { length tags.old ≡ length rows.old }
+        ensures { result ≡ replicate (length rows.old) None }
     {
         tags.fill(0);
-        Slots { tags, rows }
+        let home = H::new(rows.len());
+        Slots { tags, rows, home }
     }
 
     #[tactic(auto, using(crate::proofs::Lent::length_slots))]
     pub(crate) fn len(&self) -> usize
         ensures { result ≡ length self.now }
     {
-        self.tags.len().min(self.rows.len())
+        self.rows.len()
+    }
+
+    // The slot where the search for a key starts.
+    #[inline(always)]
+    pub(crate) fn home(&self, key: u64) -> usize
+        requires { 0 < length self.now }
+        ensures is { result ≡ H.Home.home (length self.now) key }
+        ensures inside { result < length self.now }
+    {
+        home_of(&self.home, key, self.len())
     }
 
     pub(crate) fn get(&self, place: usize) -> Option<R>
@@ -89,12 +104,21 @@ impl<'a, R: Record> Slots<'a, R> {
     }
 
     // The rows stay as they are.
-    #[tactic(auto, using(crate::proofs::Lent::blank_tags, crate::proofs::Lent::tagged_blank))]
+    #[tactic(auto, using(crate::proofs::Lent::blank_tags, crate::proofs::Lent::tagged_cleared))]
     pub(crate) fn clear(&mut self)
         ensures { self.new ≡ replicate (length self.old) None }
     {
         self.tags.fill(0);
     }
+}
+
+#[inline(always)]
+fn home_of<H: Home>(home: &H, key: u64, slots: usize) -> usize
+    requires { 0 < slots }
+    ensures is { result ≡ H.Home.home slots key }
+    ensures inside { result < slots }
+{
+    home.home(key, slots)
 }
 
 #[tactic(auto, using(crate::proofs::Lent::below_tags, crate::proofs::Lent::below_rows, crate::proofs::Lent::used_slot, crate::proofs::Lent::empty_slot))]

@@ -2,7 +2,8 @@
 ghost use Rattle.std.specs.Prelude.{◌≤◌, length};
 ghost use Rattle.hashed_store.specs.Ways.{Went};
 
-use crate::mixing::{home, tag};
+use crate::home::Home;
+use crate::mixing::tag;
 use crate::round::next;
 use crate::slots::{Look, Slots};
 use store::record::Record;
@@ -18,16 +19,16 @@ pub(crate) enum Ending {
 }
 
 // Looks for a key in the first `most` slots of its way.
-pub(crate) fn way<R: Record>(slots: &Slots<'_, R>, key: u64, most: usize) -> Ending
+pub(crate) fn way<R: Record, H: Home>(slots: &Slots<'_, R, H>, key: u64, most: usize) -> Ending
     requires { most ≤ length slots.now }
-    ensures { Went R.Record.key slots.now key most result }
+    ensures { Went H.Home.home R.Record.key slots.now key most result }
 {
     let count = slots.len();
     if count == 0 {
         return Ending::Past;
     }
     let tag = tag(key);
-    let mut place = home(key, count);
+    let mut place = slots.home(key);
     // The steps taken are part of the answer. The place goes on beside them, since from the home and the steps it would cost a test for the end each time.
     for taken in 0..most {
         match slots.look(place, key, tag) {

@@ -76,12 +76,18 @@ fn other_stores_answer_alike(rt: HostRuntime) -> Result<(), Fail> {
     let (mut order_tags, mut orders) = ([0; 3], [Order::BLANK; 3]);
     let (mut execution_tags, mut executions) = ([0; 5], [Execution::BLANK; 5]);
     let (mut symbol_tags, mut symbols) = ([0; 2], [SymbolRow::BLANK; 2]);
-    let mut ledger = Ledger::open(
-        FrontRow::new(HashedStore::new(&mut order_tags, &mut orders)),
-        HashedStore::new(&mut execution_tags, &mut executions),
-        HashedStore::new(&mut symbol_tags, &mut symbols),
-        9,
-    );
+    let Ok(orders) = HashedStore::<Order>::new(&mut order_tags, &mut orders) else {
+        unreachable!()
+    };
+    let Ok(executions) =
+        HashedStore::<Execution>::new(&mut execution_tags, &mut executions)
+    else {
+        unreachable!()
+    };
+    let Ok(symbols) = HashedStore::<SymbolRow>::new(&mut symbol_tags, &mut symbols) else {
+        unreachable!()
+    };
+    let mut ledger = Ledger::open(FrontRow::new(orders), executions, symbols, 9);
     let mut input: &[u8] =
         b"28800000sABCD    \n34200000A0000000000A1B000500ABCD  0000102500Y\n34200010E0000000000A1000200000000000001\n34200020X0000000000A1000300\n34200020A0000000000A1B000300ABCD  0000105000Y\n34200025E0000000000A1000100000000000002\n34200030B000000000001\n34200030B000000000001\n?row ABCD\n?book ABCD B\n";
     let mut output = Vec::new(rt.alloc());

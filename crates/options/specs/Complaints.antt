@@ -16,7 +16,7 @@ setting_word Book = codes "--book"
 
 -- what it can be set to
 abbrev pub wanted : Setting → List ℕ
-wanted Store = codes "row or hashed"
+wanted Store = codes "row, hashed or spread"
 wanted Book = codes "a symbol of one to eight visible ASCII characters"
 wanted setting = codes "a number below 2^64"
 

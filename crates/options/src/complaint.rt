@@ -54,7 +54,7 @@ fn wanted(setting: Setting) -> &'static str
     ensures { result.now ≡ wanted setting }
 {
     match setting {
-        Setting::Store => "row or hashed",
+        Setting::Store => "row, hashed or spread",
         Setting::Book => "a symbol of one to eight visible ASCII characters",
         _ => "a number below 2^64",
     }

@@ -9,6 +9,9 @@ use crate::slots::slots;
 use capped::capped::Capped;
 use front_row::front_row::FrontRow;
 use hashed_store::hashed::HashedStore;
+use hashed_store::home::Home;
+use hashed_store::modulo::Modulo;
+use hashed_store::spread::Spread;
 use ledger::ledger::Ledger;
 use options::options::{Kind, Options};
 use records::execution::Execution;
@@ -18,6 +21,7 @@ use row_store::row::RowStore;
 use std::alloc::Global;
 use std::io;
 use std::io::{BufRead, Write};
+use store::record::Record;
 use store::store::Store;
 
 // Replays the day of an input as the options ask, over memory that is taken once and before the first line, and prints its report and nothing else. What is printed does not
@@ -34,7 +38,8 @@ pub fn replay<R: BufRead, W: Write>(
     let places = places.as_mut_slice();
     match options.stores.kind {
         Kind::Row => over_rows(heap, options, places, input, output),
-        Kind::Hashed => over_slots(heap, options, places, input, output),
+        Kind::Hashed => over_slots::<Modulo, R, W>(heap, options, places, input, output),
+        Kind::Spread => over_slots::<Spread, R, W>(heap, options, places, input, output),
     }
 }
 
@@ -63,7 +68,8 @@ fn over_rows<R: BufRead, W: Write>(
     )
 }
 
-fn over_slots<R: BufRead, W: Write>(
+// Over slots from such homes on.
+fn over_slots<H: Home, R: BufRead, W: Write>(
     heap: Global,
     options: &Options,
     places: &mut [SymbolRow],
@@ -73,15 +79,22 @@ fn over_slots<R: BufRead, W: Write>(
     ensures { OnOk result (IfSome (R.remaining input.old) (λ bytes. Appends (W.contents output.old) (W.contents output.new) (room_printed (length places.old) options.now bytes))) }
 {
     let room = &options.room;
-    let mut order_tags = vec![in heap; 0u8; slots(room.orders) as usize]?;
-    let mut execution_tags = vec![in heap; 0u8; slots(room.executions) as usize]?;
-    let mut symbol_tags = vec![in heap; 0u8; slots(room.symbols) as usize]?;
-    let mut orders = vec![in heap; Order::BLANK; slots(room.orders) as usize]?;
-    let mut executions = vec![in heap; Execution::BLANK; slots(room.executions) as usize]?;
-    let mut symbols = vec![in heap; SymbolRow::BLANK; slots(room.symbols) as usize]?;
-    let orders = HashedStore::new(order_tags.as_mut_slice(), orders.as_mut_slice());
-    let executions = HashedStore::new(execution_tags.as_mut_slice(), executions.as_mut_slice());
-    let symbols = HashedStore::new(symbol_tags.as_mut_slice(), symbols.as_mut_slice());
+    let order_slots = slots(room.orders) as usize;
+    let execution_slots = slots(room.executions) as usize;
+    let symbol_slots = slots(room.symbols) as usize;
+    // The rows first, since they take most: where there is no memory for them, it shows at once.
+    let mut orders = vec![in heap; Order::BLANK; order_slots]?;
+    let mut executions = vec![in heap; Execution::BLANK; execution_slots]?;
+    let mut symbols = vec![in heap; SymbolRow::BLANK; symbol_slots]?;
+    let mut order_tags = vec![in heap; 0u8; order_slots]?;
+    let mut execution_tags = vec![in heap; 0u8; execution_slots]?;
+    let mut symbol_tags = vec![in heap; 0u8; symbol_slots]?;
+    let orders = hashed::<Order, H>(order_tags.as_mut_slice(), orders.as_mut_slice());
+    let executions = hashed::<Execution, H>(
+        execution_tags.as_mut_slice(),
+        executions.as_mut_slice(),
+    );
+    let symbols = hashed::<SymbolRow, H>(symbol_tags.as_mut_slice(), symbols.as_mut_slice());
     let orders = Capped::new(orders, room.orders);
     let executions = Capped::new(executions, room.executions);
     let symbols = Capped::new(symbols, room.symbols);
@@ -92,6 +105,17 @@ fn over_slots<R: BufRead, W: Write>(
         input,
         output,
     )
+}
+
+// A store over slots of which there are as many tags as rows.
+fn hashed<'a, R: Record, H: Home>(tags: &'a mut [u8], rows: &'a mut [R]) -> HashedStore<'a, R, H>
+    requires { length tags.old ≡ length rows.old }
+    ensures limit { (⟦<HashedStore<'a, R, H> as Store<R>>⟧.model result).limit ≡ length rows.old }
+{
+    let Ok(store) = HashedStore::new(tags, rows) else {
+        unreachable!()
+    };
+    store
 }
 
 // With a front row before the orders, or without.

@@ -12,6 +12,9 @@ use calls::reply::Reply;
 use capture::count::LineCount;
 use front_row::open::opened;
 use hashed_store::hashed::HashedStore;
+use hashed_store::home::Home;
+use hashed_store::modulo::Modulo;
+use hashed_store::spread::Spread;
 use records::order::Order;
 use row_store::row::RowStore;
 use std::alloc::Global;
@@ -37,14 +40,28 @@ pub(crate) fn open<R: BufRead, W: Write>(
             let below = RowStore::new(rows.as_mut_slice());
             open_over(below, opening.front, count, input, output)
         }
-        Kind::Hashed => {
-            // Not 0: the store empties its memory, whatever that holds.
-            let mut tags = vec![in heap; 255u8; opening.limit as usize]?;
-            let mut rows = vec![in heap; Order::BLANK; opening.limit as usize]?;
-            let below = HashedStore::new(tags.as_mut_slice(), rows.as_mut_slice());
-            open_over(below, opening.front, count, input, output)
-        }
+        Kind::Hashed => open_hashed::<Modulo, R, W>(heap, opening, count, input, output),
+        Kind::Spread => open_hashed::<Spread, R, W>(heap, opening, count, input, output),
     }
+}
+
+// The same for a hashed store with such homes.
+fn open_hashed<H: Home, R: BufRead, W: Write>(
+    heap: Global,
+    opening: Opening,
+    count: &mut LineCount,
+    input: &mut R,
+    output: &mut W,
+) -> io::Result<Option<Opening>>
+    ensures { IfOk result (λ next. Says (R.remaining input.old) (R.remaining input.new) (W.contents output.old) (W.contents output.new) (opening_text (Some opening) count.old.lines) (opening_text next count.new.lines)) }
+{
+    // Not 0: the store empties its memory, whatever that holds.
+    let mut tags = vec![in heap; 255u8; opening.limit as usize]?;
+    let mut rows = vec![in heap; Order::BLANK; opening.limit as usize]?;
+    let Ok(below) = HashedStore::<Order, H>::new(tags.as_mut_slice(), rows.as_mut_slice()) else {
+        unreachable!()
+    };
+    open_over(below, opening.front, count, input, output)
 }
 
 // Empties the store, and serves it behind a front, or plain.

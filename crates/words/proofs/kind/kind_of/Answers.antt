@@ -7,3 +7,6 @@ returns-in-row c = rw (text_from_reads c.args.word.now (codes "row") (omega arit
 
 pub returns-in-hashed : goal.returns-in-hashed
 returns-in-hashed c = rw (text_from_reads c.args.word.now (codes "hashed") (omega arith) (search rules)) refl
+
+pub returns-in-spread : goal.returns-in-spread
+returns-in-spread c = rw (text_from_reads c.args.word.now (codes "spread") (omega arith) (search rules)) refl
