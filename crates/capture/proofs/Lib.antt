@@ -1,3 +1,4 @@
 mod Gathering
 pub mod Reading
+pub mod Saying
 mod Splitting

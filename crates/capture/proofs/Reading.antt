@@ -1,11 +1,13 @@
 -- A line that comes in pieces.
-use Rattle.std.proofs.Common.{◌≡◌, ℕ, zero, suc, ◌-◌, ◌<◌, ◌≤◌, List, [], ◌∷◌, ◌++◌, length, take, drop, map, Bool, true, false, not, eqb, MatchBool, Option, Some, None, IfSome, sym, refl, ap, subst, ◌∙◌, ⊎_elim, arith, append_assoc, append-nil, length-append, take_all, take-append-drop, eq-eqb, ne_eqb}
+use Rattle.std.proofs.Common.{◌≡◌, ℕ, zero, suc, ◌-◌, ◌<◌, ◌≤◌, List, [], ◌∷◌, ◌++◌, length, take, drop, map, Bool, true, false, not, eqb, MatchBool, Option, Some, None, IfSome, sym, refl, ap, subst, ◌∙◌, ⊎_elim, arith, append-nil, length-append, take_all, take-append-drop, eq-eqb, ne_eqb, le_refl}
 use Rattle.std.proofs.lemmas.List.{length-take}
 use Rattle.std.proofs.lemmas.Bool.{cases_eq}
 use Rattle.std.specs.Io.{StartsWith}
-use Rattle.std.specs.Io.KnownBytes.{Keeps}
+use Rattle.std.specs.Io.KnownBytes.{Keeps, Consumes}
+use Rattle.std.proofs.KnownBytes.{Consumes-nil, Consumes-trans, Consumes-kept}
 use Rattle.std.specs.Io.BufRead.{drop_through, DropsConsumable}
 use Rattle.capture.specs.declared.buffer.LineBuffer.{LineBuffer}
+use Rattle.capture.specs.Begun.{IsBegun, IsUnended}
 use Rattle.capture.specs.Held.{held, if_there}
 use Rattle.capture.specs.Splits.{before_end, after_end, used_of}
 use Rattle.capture.specs.Lines.{passed_on, next_of, onto_first, whole_lines, lines_of}
@@ -94,26 +96,8 @@ through-cut (x ∷ xs) ys r some =
 -- What was shown of the input is a piece of it, and what follows is the rest.
 
 parts : (xs piece : List ℕ) → StartsWith xs piece → xs ≡ piece ++ drop (length piece) xs
-parts xs piece shown = sym (take-append-drop (length piece) xs) ∙ ap (λ t. t ++ drop (length piece) xs) shown
-
--- without a line end, the line goes on in the rest
-pub goes-on : (h xs piece h' : List ℕ) → StartsWith xs piece → 0 < length piece → after_end piece ≡ None → h' ≡ take 255 (h ++ before_end piece)
-    → (ahead h' (drop (length piece) xs) ≡ ahead h xs) × (drop_through 10 (drop (length piece) xs) ≡ drop_through 10 xs)
-goes-on h xs piece h' shown some none e =
-    let rest = drop (length piece) xs in
-    let whole : before_end piece ≡ piece = ap before_end (sym (append-nil piece)) ∙ before-whole piece [] none ∙ append-nil piece in
-    let now : h' ≡ take 255 (h ++ piece) = e ∙ ap (λ p. take 255 (h ++ p)) whole in
-    let split = parts xs piece shown in
-    let size : length h' ≡ length (take 255 (h ++ piece)) = ap length now in
-    let here : 0 < length (h' ++ rest) = omega (arith, length-append h' rest, size, length-take 255 (h ++ piece), length-append h piece, some) in
-    let there : 0 < length (h ++ xs) = omega (arith, length-append h xs, ap length split, length-append piece rest, some) in (
-      ahead-some h' rest here
-          ∙ ap (λ t. Some (take 255 (t ++ before_end rest))) now
-          ∙ ap Some (take-front 255 (h ++ piece) (before_end rest) ∙ ap (take 255) (append_assoc h piece (before_end rest)))
-          ∙ ap (λ t. Some (take 255 (h ++ t))) (sym (before-whole piece rest none) ∙ ap before_end (sym split))
-          ∙ sym (ahead-some h xs there),
-      sym (ap (drop_through 10) split ∙ through-whole piece rest none),
-    )
+parts xs piece shown =
+    sym (take-append-drop (length piece) xs) ∙ ap (λ t. t ++ drop (length piece) xs) shown
 
 -- with one, it ends there
 pub ends-there : (h xs piece h' : List ℕ) (used : ℕ) → StartsWith xs piece → Some used ≡ used_of piece → h' ≡ take 255 (h ++ before_end piece)
@@ -165,6 +149,65 @@ used-at a b c limit xs n used e kept fits within drops =
     room : (o : Option ℕ) → IfSome o (λ k. n ≤ k) → IfSome o (λ k. used ≤ k)
     room None h = tt
     room (Some k) h = omega (arith, h, within)
+
+-- all that was shown is used
+pub used-whole : (a b c : Option (List ℕ)) (limit : Option ℕ) (piece : List ℕ) → IfSome a (λ xs. StartsWith xs piece)
+    → Keeps a b → IfSome a (λ _. IfSome limit (λ k. length piece ≤ k)) → DropsConsumable b c limit (length piece) → Consumes a c piece
+used-whole None b c limit piece shown kept fits drops = tt
+used-whole (Some xs) b c limit piece shown kept fits drops =
+    let left = used-at (Some xs) b c limit xs (length piece) (length piece) refl kept fits (le_refl (length piece)) drops in
+    subst (λ q. Consumes (Some xs) q piece) (sym left) (parts xs piece shown)
+
+-- Of a line that is not read to its end.
+
+pub unended-both : (xs ys : List ℕ) → IsUnended xs → IsUnended ys → IsUnended (xs ++ ys)
+unended-both [] ys none also = also
+unended-both (x ∷ xs) ys none also =
+    ⊎_elim
+    (λ (e : x ≡ 10). let off = eq-eqb x 10 e in absurd (let f : Some xs ≡ None = rw off at none in cc))
+    (λ e. let off = ne_eqb x 10 e in rw off (unended-both xs ys (rw off at none) also))
+    (cases_eq x 10)
+
+pub begun-first : (was : Option (List ℕ)) (h : List ℕ) → h ≡ [] → IsBegun was was h
+begun-first was h none = record { read = []; consumed = Consumes-nil was; unended = refl; kept = none }
+
+-- no line ends in the piece that is read
+pub begun-on : (was here is : Option (List ℕ)) (h piece h' : List ℕ) → IsBegun was here h → Consumes here is piece → IsUnended piece
+    → h' ≡ take 255 (h ++ before_end piece) → IsBegun was is h'
+begun-on was here is h piece h' b used none e =
+    let whole : before_end piece ≡ piece = ap before_end (sym (append-nil piece)) ∙ before-whole piece [] none ∙ append-nil piece in record {
+      read = b.read ++ piece;
+      consumed = Consumes-trans was here is b.read piece b.consumed used;
+      unended = unended-both b.read piece b.unended none;
+      kept =
+          e ∙ ap (λ p. take 255 (h ++ p)) whole ∙ ap (λ l. take 255 (l ++ piece)) b.kept
+          ∙ take-front 255 b.read piece;
+    }
+
+pub begun-kept : (was here is : Option (List ℕ)) (h : List ℕ) → IsBegun was here h → Keeps here is → IsBegun was is h
+begun-kept was here is h b kept = record {
+  read = b.read;
+  consumed = Consumes-kept was here is b.read b.consumed kept;
+  unended = b.unended;
+  kept = b.kept;
+}
+
+begun-ahead : (read ys : List ℕ) → IsUnended read → ahead (take 255 read) ys ≡ next_of (read ++ ys)
+begun-ahead [] ys none = refl
+begun-ahead (b ∷ bs) ys none =
+    ap Some (take-front 255 (b ∷ bs) (before_end ys) ∙ ap (take 255) (sym (before-whole (b ∷ bs) ys none)))
+
+-- what the line will be, and what will stand behind it, is what it was at first
+pub begun-known : (was here : Option (List ℕ)) (h : List ℕ) → IsBegun was here h
+    → IfSome was (λ xs. (ys : List ℕ) × (here ≡ Some ys) × (ahead h ys ≡ next_of xs) × (drop_through 10 ys ≡ drop_through 10 xs))
+begun-known None here h b = tt
+begun-known (Some xs) None h b = absurd b.consumed
+begun-known (Some xs) (Some ys) h b = (
+  ys,
+  refl,
+  ap (λ l. ahead l ys) b.kept ∙ begun-ahead b.read ys b.unended ∙ ap next_of (sym b.consumed),
+  sym (ap (drop_through 10) b.consumed ∙ through-whole b.read ys b.unended),
+)
 
 -- Of all lines.
 

@@ -2,10 +2,11 @@
 use Rattle.std.proofs.Common.{◌≡◌, ℕ, zero, suc, ◌<◌, ◌≤◌, List, [], ◌∷◌, ◌++◌, length, map, take, Some, None, sym, refl, ap, ◌∙◌, ⊎_elim, arith, append-nil, length-append, eq-eqb, ne_eqb, take_all}
 use Rattle.std.proofs.lemmas.Bool.{cases_eq}
 use Rattle.std.specs.Io.BufRead.{drop_through}
+use Rattle.capture.specs.Begun.{IsUnended}
 use Rattle.capture.specs.Lines.{passed_on, lines_of}
 use Rattle.capture.specs.Splits.{before_end, after_end}
 use Rattle.capture.proofs.Reading.{take-front, before-whole, through-whole, before-cut, shorter, whole-first}
-use Rattle.day_lines.specs.Takings.{Unended, begun_line}
+use Rattle.day_lines.specs.Takings.{begun_line}
 
 -- the first line of what is not empty, and the others
 first_of : (xs : List ℕ) → 0 < length xs → lines_of xs ≡ take 255 (before_end xs) ∷ lines_of (drop_through 10 xs)
@@ -22,7 +23,7 @@ through_next (x ∷ xs) more r some =
     (cases_eq x 10)
 
 -- a line that was begun ends in the piece
-pub line_cut : (begun piece more r : List ℕ) → Unended begun → after_end piece ≡ Some r → lines_of (begun ++ (piece ++ more)) ≡ take 255 (begun ++ before_end piece) ∷ lines_of (r ++ more)
+pub line_cut : (begun piece more r : List ℕ) → IsUnended begun → after_end piece ≡ Some r → lines_of (begun ++ (piece ++ more)) ≡ take 255 (begun ++ before_end piece) ∷ lines_of (r ++ more)
 line_cut begun piece more r none some =
     let size = shorter piece r some in
     first_of (begun ++ (piece ++ more)) (let a = length-append begun (piece ++ more) in let b = length-append piece more in omega arith)
@@ -30,12 +31,12 @@ line_cut begun piece more r none some =
     ∷ lines_of ((through-whole begun (piece ++ more) none ∙ through_next piece more r some) i))
 
 -- it does not end there
-begun_on : (begun more : List ℕ) → Unended begun → 0 < length begun → lines_of (begun ++ more) ≡ take 255 (begun ++ before_end more) ∷ lines_of (drop_through 10 more)
+begun_on : (begun more : List ℕ) → IsUnended begun → 0 < length begun → lines_of (begun ++ more) ≡ take 255 (begun ++ before_end more) ∷ lines_of (drop_through 10 more)
 begun_on begun more none some =
     first_of (begun ++ more) (let a = length-append begun more in omega arith)
     ∙ (λ i. take 255 (before-whole begun more none i) ∷ lines_of (through-whole begun more none i))
 
-pub unended_front : (n : ℕ) (xs : List ℕ) → Unended xs → Unended (take n xs)
+pub unended_front : (n : ℕ) (xs : List ℕ) → IsUnended xs → IsUnended (take n xs)
 unended_front zero xs none = refl
 unended_front (suc n) [] none = refl
 unended_front (suc n) (x ∷ xs) none =
@@ -44,16 +45,8 @@ unended_front (suc n) (x ∷ xs) none =
     (λ e. let off = ne_eqb x 10 e in rw off (unended_front n xs (rw off at none)))
     (cases_eq x 10)
 
-pub unended_both : (xs ys : List ℕ) → Unended xs → Unended ys → Unended (xs ++ ys)
-unended_both [] ys none also = also
-unended_both (x ∷ xs) ys none also =
-    ⊎_elim
-    (λ (e : x ≡ 10). let off = eq-eqb x 10 e in absurd (let f : Some xs ≡ None = rw off at none in cc))
-    (λ e. let off = ne_eqb x 10 e in rw off (unended_both xs ys (rw off at none) also))
-    (cases_eq x 10)
-
 -- what is kept of it is as good as all of it
-pub front_kept : (begun more : List ℕ) → Unended begun → lines_of (take 255 begun ++ more) ≡ lines_of (begun ++ more)
+pub front_kept : (begun more : List ℕ) → IsUnended begun → lines_of (take 255 begun ++ more) ≡ lines_of (begun ++ more)
 front_kept [] more none = refl
 front_kept (x ∷ xs) more none =
     begun_on (take 255 (x ∷ xs)) more (unended_front 255 (x ∷ xs) none) (omega arith)
@@ -66,7 +59,7 @@ whole_line [] end none fits = take_all 255 end fits
 whole_line (x ∷ xs) end none fits = absurd (omega arith)
 
 -- all that was begun, where nothing more comes
-pub begun_all : (begun : List ℕ) → length begun ≤ 255 → Unended begun → lines_of begun ≡ begun_line begun
+pub begun_all : (begun : List ℕ) → length begun ≤ 255 → IsUnended begun → lines_of begun ≡ begun_line begun
 begun_all [] fits none = refl
 begun_all (x ∷ xs) fits none =
     let some = ne_eqb (length (x ∷ xs)) 0 (λ e. omega arith) in

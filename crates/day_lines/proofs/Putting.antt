@@ -4,9 +4,11 @@ use Rattle.std.specs.Io.{StartsWith}
 use Rattle.std.specs.Io.KnownBytes.{Appends}
 use Rattle.std.proofs.KnownBytes.{Appends-nil, Appends-trans}
 use Rattle.capture.specs.declared.buffer.LineBuffer.{LineBuffer}
+use Rattle.capture.specs.Begun.{IsUnended}
 use Rattle.capture.specs.Held.{held}
 use Rattle.capture.specs.Lines.{lines_of}
 use Rattle.capture.specs.Splits.{before_end, after_end}
+use Rattle.capture.proofs.Reading.{unended-both}
 use Rattle.day_rules.specs.declared.fault.LedgerFault.{LedgerFault}
 use Rattle.day_rules.specs.declared.outcome.Outcome.{Outcome}
 use Rattle.day_rules.specs.Days.{Day}
@@ -14,10 +16,10 @@ use Rattle.day_rules.specs.Lines.{day_after, answers_to}
 use Rattle.day_rules.specs.Rules.{answer, next}
 use Rattle.day_lines.specs.declared.seen.Seen.{Seen}
 use Rattle.day_lines.specs.Seen.{none_seen, one_seen, all_seen, IsSeen}
-use Rattle.day_lines.specs.Takings.{Taken, Unended, begun_line, Cut}
+use Rattle.day_lines.specs.Takings.{Taken, begun_line, Cut}
 use Rattle.day_lines.specs.Texts.{answer_line, answers_text}
 use Rattle.day_lines.proofs.Counting.{all_counted}
-use Rattle.day_lines.proofs.Cutting.{begun_all, line_cut, unended_front, unended_both, front_kept}
+use Rattle.day_lines.proofs.Cutting.{begun_all, line_cut, unended_front, front_kept}
 
 -- Some lines and then others.
 
@@ -69,7 +71,7 @@ pub record Cutting (shown : Bool) (begun piece now rest : List ℕ) (was is : Op
   pub lines : List (List ℕ)
   pub taken : Taken shown lines was is s t d e
   pub cut : (more : List ℕ) → lines_of (begun ++ (piece ++ more)) ≡ lines ++ lines_of (now ++ (rest ++ more))
-  pub unended : Unended now
+  pub unended : IsUnended now
 
 module _ (shown : Bool) (begun piece now rest : List ℕ) (was is : Option (List ℕ)) (s t : Seen) (d e : Day) (c : Cutting shown begun piece now rest was is s t d e) where
   -- a line ends
@@ -87,14 +89,14 @@ module _ (shown : Bool) (begun piece now rest : List ℕ) (was is : Option (List
   -- no line ends
   pub cutting_ends : (left : List ℕ) → None ≡ after_end rest → left ≡ take 255 (now ++ rest) → Cut shown begun piece left was is s t d e
   cutting_ends left none is_left =
-      let whole : Unended (now ++ rest) = unended_both now rest c.unended (sym none) in record {
+      let whole : IsUnended (now ++ rest) = unended-both now rest c.unended (sym none) in record {
         lines = c.lines;
         taken = c.taken;
         cut = λ more.
             c.cut more
             ∙ ap (λ ls. c.lines ++ ls)
             (ap lines_of (sym (append_assoc now rest more)) ∙ sym (front_kept (now ++ rest) more whole) ∙ ap (λ l. lines_of (l ++ more)) (sym is_left));
-        unended = subst Unended (sym is_left) (unended_front 255 (now ++ rest) whole);
+        unended = subst IsUnended (sym is_left) (unended_front 255 (now ++ rest) whole);
       }
 
 -- The whole input.
@@ -106,7 +108,7 @@ pub record Putting (shown : Bool) (coming was is : Option (List ℕ)) (bytes beg
   pub lines : List (List ℕ)
   pub taken : Taken shown lines was is none_seen s d e
   pub cut : lines_of bytes ≡ lines ++ lines_of (begun ++ rest)
-  pub unended : Unended begun
+  pub unended : IsUnended begun
 
 pub putting_starts : (shown : Bool) (coming was : Option (List ℕ)) (begun : List ℕ) (s : Seen) (d : Day) → s ≡ none_seen → begun ≡ [] → IfSome coming (λ bytes. Putting shown coming was was bytes begun s d d)
 putting_starts shown None was begun s d none empty = tt
@@ -121,7 +123,7 @@ putting_starts shown (Some xs) was begun s d none empty = record {
 
 module _ (shown : Bool) (coming was is : Option (List ℕ)) (bytes begun : List ℕ) (s : Seen) (d e : Day) (p : Putting shown coming was is bytes begun s d e) where
   pub putting_on : (later is' : Option (List ℕ)) (piece now : List ℕ) (t : Seen) (f : Day) → StartsWith p.rest piece → later ≡ Some (drop (length piece) p.rest)
-      → (Unended begun → Cut shown begun piece now is is' s t e f) → Putting shown later was is' bytes now t d f
+      → (IsUnended begun → Cut shown begun piece now is is' s t e f) → Putting shown later was is' bytes now t d f
   putting_on later is' piece now t f shown_piece left taken =
       let c = taken p.unended in
       let others = drop (length piece) p.rest in
@@ -146,7 +148,7 @@ module _ (shown : Bool) (coming was is : Option (List ℕ)) (bytes begun : List 
 pub all_told : (answers : List (Result Outcome LedgerFault)) (t : Seen) → t ≡ all_seen answers none_seen → IsSeen t answers
 all_told answers t e = subst (λ s. IsSeen s answers) (sym e) (all_counted answers)
 
-pub begun_held : (b : LineBuffer) → Unended (held b) → lines_of (held b) ≡ begun_line (held b)
+pub begun_held : (b : LineBuffer) → IsUnended (held b) → lines_of (held b) ≡ begun_line (held b)
 begun_held b none = begun_all (held b) (omega (arith, length-take b.len b.bytes, b.inside)) none
 
 -- a line that was begun and goes on with nothing

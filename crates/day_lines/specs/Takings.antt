@@ -1,8 +1,8 @@
 -- Lines put one after the other, and those of a piece of an input.
-use Rattle.std.specs.Prelude.{◌≡◌, ℕ, Bool, cond, List, [], ◌∷◌, ◌++◌, length, None, Option, ◌==◌}
+use Rattle.std.specs.Prelude.{◌≡◌, ℕ, Bool, cond, List, [], ◌∷◌, ◌++◌, length, Option, ◌==◌}
 use Rattle.std.specs.Io.KnownBytes.{Appends}
+use Rattle.capture.specs.Begun.{IsUnended}
 use Rattle.capture.specs.Lines.{lines_of}
-use Rattle.capture.specs.Splits.{after_end}
 use Rattle.day_rules.specs.Days.{Day}
 use Rattle.day_rules.specs.Lines.{day_after, answers_to}
 use Rattle.day_lines.specs.declared.seen.Seen.{Seen}
@@ -15,20 +15,18 @@ pub record Taken (shown : Bool) (lines : List (List ℕ)) (was is : Option (List
   pub seen : after ≡ all_seen (answers_to lines d) before
   pub day : e ≡ day_after lines d
 
--- no line ends among the bytes
-abbrev pub Unended : List ℕ → Type 0
-Unended bytes = after_end bytes ≡ None
-
 -- a line that was begun and has no line end, unless it is empty
 abbrev pub begun_line : List ℕ → List (List ℕ)
 begun_line begun = cond (length begun == 0) [] (begun ∷ [])
 
--- Of a line that was begun and a piece behind it, some lines were put, and what is left begins the next line: whatever comes behind the piece, these are its first lines, and the others are those of what is left and of what comes.
+-- Of a line that was begun and a piece behind it, some lines were put, and what is left begins the
+-- next line: whatever comes behind the piece, these are its first lines, and the others are those
+-- of what is left and of what comes.
 pub record Cut (shown : Bool) (begun piece left : List ℕ) (was is : Option (List ℕ)) (before after : Seen) (d e : Day) : Type 0 where
   pub lines : List (List ℕ)
   pub taken : Taken shown lines was is before after d e
   pub cut : (more : List ℕ) → lines_of (begun ++ (piece ++ more)) ≡ lines ++ lines_of (left ++ more)
-  pub unended : Unended left
+  pub unended : IsUnended left
 
 abbrev pub PieceTaken : (shown : Bool) (begun piece left : List ℕ) (was is : Option (List ℕ)) (before after : Seen) (d e : Day) → Type 0
-PieceTaken shown begun piece left was is before after d e = Unended begun → Cut shown begun piece left was is before after d e
+PieceTaken shown begun piece left was is before after d e = IsUnended begun → Cut shown begun piece left was is before after d e

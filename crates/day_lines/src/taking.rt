@@ -12,6 +12,7 @@ ghost use Rattle.day_lines.specs.Texts.{answer_line, answers_text};
 
 use crate::seen::Seen;
 use capture::buffer::LineBuffer;
+use capture::input::{is_interrupted, too_long};
 use capture::split::split_line;
 use day_forms::answer::Answered;
 use day_forms::numbered::Numbered;
@@ -22,7 +23,7 @@ use records::execution::Execution;
 use records::order::Order;
 use records::symbol_row::SymbolRow;
 use std::io;
-use std::io::{BufRead, ErrorKind, Write};
+use std::io::{BufRead, Write};
 use store::store::Store;
 
 // What stands in an answer's place before the line is put.
@@ -31,22 +32,35 @@ const NO_ANSWER: Result<Outcome, LedgerFault> = Ok(Outcome {
     shares: 0,
 });
 
-// Puts each line of the input to the ledger, prints its number and what it is answered if that is to be shown, and answers what became of all.
+/// Puts each line of the input to the ledger, prints its number and what it is answered if that is
+/// to be shown, and answers what became of all.
+///
+/// A read that was interrupted is made again. An `Err` is the reader's or the writer's, or
+/// `FileTooLarge` after 2^64 - 1 reads.
 pub fn take_lines<R: BufRead, W: Write, O: Store<Order>, E: Store<Execution>, S: Store<SymbolRow>>(
     ledger: &mut Ledger<O, E, S>,
     shown: bool,
     input: &mut R,
     output: &mut W,
 ) -> io::Result<Seen>
-    ensures says { OnOk result (IfSome (R.remaining input.old) (λ bytes. Appends (W.contents output.old) (W.contents output.new) (answers_text shown 0 (lines_of bytes) ledger.old))) }
-    ensures leaves { OnOk result (IfSome (R.remaining input.old) (λ bytes. ledger.new ≡ day_after (lines_of bytes) ledger.old)) }
-    ensures seen { IfOk result (λ seen. IfSome (R.remaining input.old) (λ bytes. IsSeen seen (answers_to (lines_of bytes) ledger.old))) }
+    ensures says { OnOk result (IfSome (R.remaining input.old) (λ bytes.
+        Appends (W.contents output.old) (W.contents output.new)
+            (answers_text shown 0 (lines_of bytes) ledger.old))) }
+    ensures leaves { OnOk result (IfSome (R.remaining input.old) (λ bytes.
+        ledger.new ≡ day_after (lines_of bytes) ledger.old)) }
+    ensures seen { IfOk result (λ seen. IfSome (R.remaining input.old) (λ bytes.
+        IsSeen seen (answers_to (lines_of bytes) ledger.old))) }
 {
     let mut seen = Seen::new();
     let mut begun = LineBuffer::new();
-    // Nothing says that the input ends, and no handle to wait without end is used here: so the turns are counted.
+    // Nothing says that the input ends, and no handle to wait without end is used here: so the
+    // turns are counted.
     for _ in 0..u64::MAX {
-        let piece = input.fill_buf()?;
+        let piece = match input.fill_buf() {
+            Ok(piece) => piece,
+            Err(error) if is_interrupted(&error) => continue,
+            Err(error) => return Err(error),
+        };
         let count = piece.len();
         if count == 0 {
             take_last(ledger, shown, &mut begun, &mut seen, output)?;
@@ -55,7 +69,7 @@ pub fn take_lines<R: BufRead, W: Write, O: Store<Order>, E: Store<Execution>, S:
         take_piece(ledger, shown, piece, &mut begun, &mut seen, output)?;
         input.consume(count);
     }
-    Err(ErrorKind::TimedOut.into())
+    Err(too_long())
 }
 
 // The lines that end in a piece of the input, of which the first was begun before; what stands behind the last line end begins the next one.

@@ -1,1 +1,1 @@
-mod Listings
+mod Counting

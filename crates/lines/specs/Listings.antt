@@ -1,69 +1,68 @@
--- What is counted and printed of lines.
-use Rattle.std.specs.Prelude.{ℕ, List, [], ◌∷◌, ◌++◌, Ok, Err, Result, cond, codes, decimal, length, take, string_bytes, ◌==◌}
+-- What is printed of the lines of an input.
+use Rattle.std.specs.Prelude.{ℕ, Bool, false, not, List, [], ◌∷◌, ◌++◌, Ok, Err, Result, codes, decimal, length, count_by, is_ok}
+use Rattle.std.specs.Str.{bytes_eq}
 use Rattle.messages.specs.declared.fault.MessageFault.{MessageFault}
 use Rattle.messages.specs.declared.message.Message.{Message}
+use Rattle.messages.specs.Lines.{written}
 use Rattle.messages.specs.Telling.{line_message}
-use Rattle.capture.specs.Counts.{more}
-use Rattle.capture.specs.Held.{held}
+use Rattle.capture.specs.Counts.{at_most, more}
+use Rattle.capture.specs.Lines.{lines_of}
 use Rattle.forms.specs.Messages.{message_text}
 use Rattle.forms.specs.Texts.{fault_text}
-use Rattle.lines.specs.declared.printing.Listing.{Listing}
-use Rattle.lines.specs.declared.totals.Totals.{Totals}
 
--- the form of what a line is
+-- the message that a line is, or why it is none
 abbrev pub form_of : Result Message MessageFault → List ℕ
 form_of (Ok message) = message_text message
 form_of (Err fault) = fault_text fault
 
 -- a form behind the number of its line
-abbrev pub listed : (number : ℕ) (form : List ℕ) → List ℕ
-listed number form = codes "(line " ++ (decimal number ++ (codes " " ++ (form ++ (codes ")" ++ (10 ∷ [])))))
+abbrev pub numbered : (number : ℕ) (form : List ℕ) → List ℕ
+numbered number form =
+    codes "(line " ++ (decimal number ++ (codes " " ++ (form ++ (codes ")" ++ (10 ∷ [])))))
 
--- the totals with a line more; each message gives its line back
-abbrev pub counted : Result Message MessageFault → Totals → Totals
-counted (Ok message) t = record { lines = more t.lines; read = more t.read; refused = t.refused; rewritten = more t.rewritten }
-counted (Err fault) t = record { lines = more t.lines; read = t.read; refused = more t.refused; rewritten = t.rewritten }
+-- each line's number with its message or refusal, where so many lines came before
+abbrev pub listing : ℕ → List (List ℕ) → List ℕ
+listing n [] = []
+listing n (line ∷ lines) =
+    numbered (more n) (form_of (line_message line)) ++ listing (more n) lines
 
-abbrev pub totals_text : Totals → List ℕ
-totals_text t =
+-- the line is a message
+abbrev pub is_read : List ℕ → Bool
+is_read line = is_ok (line_message line)
+
+-- it is refused
+abbrev pub is_refused : List ℕ → Bool
+is_refused line = not (is_read line)
+
+-- what was read, written again, is the line
+abbrev pub gives_back : List ℕ → Result Message MessageFault → Bool
+gives_back line (Ok message) = bytes_eq (written message) line
+gives_back line (Err fault) = false
+
+-- it is a message, and that message, written, is that very line
+abbrev pub is_rewritten : List ℕ → Bool
+is_rewritten line = gives_back line (line_message line)
+
+-- how many of the lines pass the test, as far as a count goes
+abbrev pub times : (List ℕ → Bool) → List (List ℕ) → ℕ
+times test lines = at_most (count_by test lines)
+
+abbrev pub totals_text : (lines read refused rewritten : ℕ) → List ℕ
+totals_text lines read refused rewritten =
     codes "(lines "
-    ++ (decimal t.lines
+    ++ (decimal lines
     ++ (codes " (read "
-    ++ (decimal t.read ++ (codes ") (refused " ++ (decimal t.refused ++ (codes ") (rewritten " ++ (decimal t.rewritten ++ codes "))")))))))
+    ++ (decimal read
+    ++ (codes ") (refused "
+    ++ (decimal refused ++ (codes ") (rewritten " ++ (decimal rewritten ++ codes "))")))))))
 
-unfoldable pub totals_line : Totals → List ℕ
-totals_line t = totals_text t ++ (10 ∷ [])
+-- how many lines there are, and how many of them are read, refused, and rewritten
+unfoldable pub totals_line : List (List ℕ) → List ℕ
+totals_line lines =
+    totals_text (at_most (length lines)) (times is_read lines) (times is_refused lines)
+    (times is_rewritten lines)
+    ++ (10 ∷ [])
 
--- the totals at the end of a capture, where a last line needs no line end
-abbrev pub ended : (line : List ℕ) → Totals → Totals
-ended line t = cond (length line == 0) t (counted (line_message line) t)
-
--- what is printed of that line
-abbrev pub last_listed : (line : List ℕ) → Totals → List ℕ
-last_listed line t = cond (length line == 0) [] (listed (more t.lines) (form_of (line_message line)))
-
--- a line that was begun, the totals, and what is to be printed
-pub record Listed : Type 0 where
-  pub line : List ℕ
-  pub totals : Totals
-  pub text : List ℕ
-
--- the line is at its end
-abbrev pub line_ended : Listed → Listed
-line_ended s = record {
-  line = [];
-  totals = counted (line_message s.line) s.totals;
-  text = s.text ++ listed (more s.totals.lines) (form_of (line_message s.line));
-}
-
--- more of the line has come
-abbrev pub line_extended : List ℕ → Listed → Listed
-line_extended piece s = record { line = take 255 (s.line ++ piece); totals = s.totals; text = s.text }
-
--- bytes come one after the other
-abbrev pub after_bytes : List ℕ → Listed → Listed
-after_bytes [] s = s
-after_bytes (x ∷ xs) s = after_bytes xs (cond (x == 10) (line_ended s) (line_extended (x ∷ []) s))
-
-abbrev pub listed_of : Listing → Listed
-listed_of l = record { line = held l.line; totals = l.totals; text = string_bytes l.text }
+-- all that the program prints
+abbrev pub lines_text : List ℕ → List ℕ
+lines_text bytes = listing 0 (lines_of bytes) ++ totals_line (lines_of bytes)

@@ -1,1 +1,3 @@
+mod First
+mod Last
 mod Onward

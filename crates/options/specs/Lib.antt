@@ -1,3 +1,4 @@
 pub mod Complaints
 pub mod Requests
 pub mod Words
+pub mod Settings

@@ -19,7 +19,8 @@ use Rattle.options.specs.declared.setting.Setting.{Setting}
 use Rattle.options.specs.declared.setting.Setting.TheVariants.{Store, Orders, Executions, Symbols, DayLimit, Book}
 use Rattle.options.specs.Words.{word_meant}
 
--- where nothing is said: hashed stores with room for 1,048,576 orders, 4,194,304 executions and 16,384 symbols, the greatest day limit, and the report alone
+-- where nothing is said: hashed stores with room for 1,048,576 orders, 4,194,304 executions and
+-- 16,384 symbols, the greatest day limit, and the report alone
 abbrev pub defaults : Options
 defaults = record {
   stores = record { kind = Hashed; front = false };
@@ -33,16 +34,16 @@ nothing_read = record { request = record { options = defaults; file = None }; aw
 -- One option set, the others as they were.
 
 abbrev pub with_stores : Stores → Options → Options
-with_stores s o = record { stores = s; room = o.room; shown = o.shown }
+with_stores s o = record o { stores = s }
 
 abbrev pub with_shown : Shown → Options → Options
-with_shown s o = record { stores = o.stores; room = o.room; shown = s }
+with_shown s o = record o { shown = s }
 
 abbrev pub with_limit : Setting → ℕ → Room → Room
-with_limit Orders n r = record { orders = n; executions = r.executions; symbols = r.symbols; day_limit = r.day_limit }
-with_limit Executions n r = record { orders = r.orders; executions = n; symbols = r.symbols; day_limit = r.day_limit }
-with_limit Symbols n r = record { orders = r.orders; executions = r.executions; symbols = n; day_limit = r.day_limit }
-with_limit DayLimit n r = record { orders = r.orders; executions = r.executions; symbols = r.symbols; day_limit = n }
+with_limit Orders n r = record r { orders = n }
+with_limit Executions n r = record r { executions = n }
+with_limit Symbols n r = record r { symbols = n }
+with_limit DayLimit n r = record r { day_limit = n }
 with_limit Store n r = r
 with_limit Book n r = r
 
@@ -52,12 +53,11 @@ valued_by s None change = Err (mistake.Value s)
 valued_by s (Some x) change = Ok (change x)
 
 abbrev pub limit_set : Setting → List ℕ → Options → Result Options Mistake
-limit_set s w o = valued_by s (number_of w) (λ n. record { stores = o.stores; room = with_limit s n o.room; shown = o.shown })
+limit_set s w o = valued_by s (number_of w) (λ n. record o { room = with_limit s n o.room })
 
 abbrev pub set_to : Setting → List ℕ → Options → Result Options Mistake
-set_to Store w o = valued_by Store (kind_meant w) (λ kind. with_stores (record { kind = kind; front = o.stores.front }) o)
-set_to Book w o =
-    valued_by Book (symbol_of w) (λ n. with_shown (record { answers = o.shown.answers; book = Some n; quiet = o.shown.quiet; help = o.shown.help }) o)
+set_to Store w o = valued_by Store (kind_meant w) (λ kind. with_stores (record o.stores { kind = kind }) o)
+set_to Book w o = valued_by Book (symbol_of w) (λ n. with_shown (record o.shown { book = Some n }) o)
 set_to Orders w o = limit_set Orders w o
 set_to Executions w o = limit_set Executions w o
 set_to Symbols w o = limit_set Symbols w o
@@ -65,7 +65,7 @@ set_to DayLimit w o = limit_set DayLimit w o
 
 -- with other options, and no word awaited
 abbrev pub with_options : Reading → Options → Reading
-with_options r o = record { request = record { options = o; file = r.request.file }; awaiting = None }
+with_options r o = record { request = record r.request { options = o }; awaiting = None }
 
 abbrev pub stored : Stores → Reading → Reading
 stored s r = with_options r (with_stores s r.request.options)
@@ -80,11 +80,11 @@ file_named place None o = Ok (record { request = record { options = o; file = So
 
 -- a word that sets nothing before it
 abbrev pub word_read : (place : ℕ) → Meaning → Reading → Result Reading Mistake
-word_read place Front r = let s = r.request.options.stores in Ok (stored (record { kind = s.kind; front = true }) r)
-word_read place Answers r = let s = r.request.options.shown in Ok (showing (record { answers = true; book = s.book; quiet = s.quiet; help = s.help }) r)
-word_read place Quiet r = let s = r.request.options.shown in Ok (showing (record { answers = s.answers; book = s.book; quiet = true; help = s.help }) r)
-word_read place Help r = let s = r.request.options.shown in Ok (showing (record { answers = s.answers; book = s.book; quiet = s.quiet; help = true }) r)
-word_read place (Sets setting) r = Ok (record { request = r.request; awaiting = Some setting })
+word_read place Front r = Ok (stored (record r.request.options.stores { front = true }) r)
+word_read place Answers r = Ok (showing (record r.request.options.shown { answers = true }) r)
+word_read place Quiet r = Ok (showing (record r.request.options.shown { quiet = true }) r)
+word_read place Help r = Ok (showing (record r.request.options.shown { help = true }) r)
+word_read place (Sets setting) r = Ok (record r { awaiting = Some setting })
 word_read place Unknown r = Err mistake.Unknown
 word_read place File r = file_named place r.request.file r.request.options
 

@@ -1,6 +1,7 @@
 // Reading a command line, word by word.
-ghost use Rattle.std.specs.Prelude.{◌≡◌, map};
+ghost use Rattle.std.specs.Prelude.{◌≡◌, map, IfOk, IfErr};
 ghost use Rattle.options.specs.Requests.{nothing_read, with_stores, with_shown, with_options, with_limit, set_to, word_read, one_read, read_to_end, request_of};
+ghost use Rattle.options.specs.Settings.{HasLast, IsFirstMistake};
 
 use crate::meaning::{Meaning, meant};
 use crate::mistake::{Mistake, Wrong};
@@ -31,8 +32,18 @@ const DEFAULTS: Options = Options {
     },
 };
 
-// What the words of a command line, without the program's own, ask for.
+/// What the words of a command line, without the program's own, ask for, or the first mistake in
+/// them. The last of two settings of one option is the one that counts.
 pub fn read(words: &[&[u8]]) -> Result<Request, Wrong>
+    ensures value { result ≡ request_of (map (λ word. word.now) words.now) }
+    ensures last { IfOk result (λ request.
+        HasLast (map (λ word. word.now) words.now) request.options) }
+    ensures first { IfErr result (λ wrong. IsFirstMistake (map (λ word. word.now) words.now) wrong) }
+{
+    read_words(words)
+}
+
+fn read_words(words: &[&[u8]]) -> Result<Request, Wrong>
     ensures { result ≡ request_of (map (λ word. word.now) words.now) }
 {
     let mut reading = Reading::new();

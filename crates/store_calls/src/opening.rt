@@ -2,7 +2,7 @@
 ghost use Rattle.std.specs.Prelude.{Some, IfOk};
 ghost use Rattle.store.specs.Models.{emptied};
 ghost use Rattle.store_calls.specs.Runs.{stored_over, begun_text, opening_text};
-ghost use Rattle.store_calls.specs.Sessions.{Says};
+ghost use Rattle.capture.specs.Sessions.{Says};
 
 use crate::serving::serve;
 use crate::showing::show;

@@ -9,9 +9,10 @@ use crate::serving::serve;
 use calls::answers::none::NoStore;
 use calls::call::Opening;
 use capture::count::LineCount;
+use capture::input::too_long;
 use std::alloc::Global;
 use std::io;
-use std::io::{BufRead, ErrorKind, Write};
+use std::io::{BufRead, Write};
 
 // Answers every line of the input on the output.
 pub fn run<R: BufRead, W: Write>(heap: Global, input: &mut R, output: &mut W) -> io::Result<()>
@@ -40,5 +41,5 @@ fn open_each<R: BufRead, W: Write>(
         };
         next = open(heap, opening, &mut count, input, output)?;
     }
-    Err(ErrorKind::TimedOut.into())
+    Err(too_long())
 }

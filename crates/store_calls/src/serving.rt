@@ -1,7 +1,7 @@
 // Answering lines, until one opens another store.
 ghost use Rattle.std.specs.Prelude.{IfOk};
 ghost use Rattle.store_calls.specs.Runs.{said_on, line_text, opening_text, going_on};
-ghost use Rattle.store_calls.specs.Sessions.{Says, Prints};
+ghost use Rattle.capture.specs.Sessions.{Says, Prints};
 
 use crate::showing::show;
 use calls::answers::Answers;
@@ -10,9 +10,9 @@ use calls::parse::parse;
 use calls::reply::Reply;
 use capture::buffer::LineBuffer;
 use capture::count::LineCount;
-use capture::input::next_line;
+use capture::input::{next_line, too_long};
 use std::io;
-use std::io::{BufRead, ErrorKind, Write};
+use std::io::{BufRead, Write};
 
 // Answers the lines of the input, until one opens another store: that one, or none at the end of the input.
 pub(crate) fn serve<R: BufRead, W: Write, A: Answers + Drop>(
@@ -34,7 +34,7 @@ pub(crate) fn serve<R: BufRead, W: Write, A: Answers + Drop>(
             return Ok(Some(opening));
         }
     }
-    Err(ErrorKind::TimedOut.into())
+    Err(too_long())
 }
 
 // Answers a line by what it asks for. One that opens another store is not answered yet: that one.

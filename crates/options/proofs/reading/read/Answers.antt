@@ -1,27 +1,12 @@
-use Rattle.std.proofs.Common.{◌≡◌, ◌+◌, map, drop, length, sym, ap, ◌∙◌, arith}
-use Rattle.options.specs.Requests.{read_to_end, unless_wrong, words_read}
-use Rattle.options.proofs.Onward.{reads_one, reads_none}
+use Rattle.std.proofs.Common.{map, rules}
+use Rattle.options.proofs.First.{is_first}
+use Rattle.options.proofs.Last.{has_last}
 use Rattle.options.proofs.reading.read.Goals as goal
-
-pub returns-in-Err : goal.returns-in-Err
-returns-in-Err c =
-    let words = c.args.words.now in
-    let place = c.loop-place.place in
-    let found = sym c.word.ensures ∙ c.in-Err.is in
-    sym (ap (λ r. unless_wrong place r (λ next. words_read (place + 1) (drop (place + 1) (map (λ word. word.now) words)) next)) found)
-    ∙ sym (reads_one (λ word. word.now) words place c.loop-place.reading _ (omega arith)) ∙ c.loop-place.invariant
-
-pub loop-place-preserved : goal.loop-place-preserved
-loop-place-preserved c =
-    let words = c.args.words.now in
-    let place = c.loop-place.place in
-    let found = sym c.word.ensures ∙ c.in-Ok.is in
-    sym (ap (λ r. unless_wrong place r (λ next. words_read (place + 1) (drop (place + 1) (map (λ word. word.now) words)) next)) found)
-    ∙ sym (reads_one (λ word. word.now) words place c.loop-place.reading _ (omega arith)) ∙ c.loop-place.invariant
 
 pub returns : goal.returns
 returns c =
-    let words = c.args.words.now in
-    let place = c.loop-place.place in
-    let last : length words ≡ place = omega arith in
-    c.end.ensures ∙ ap (λ n. read_to_end n c.loop-place.reading) last ∙ sym (reads_none (λ word. word.now) words place c.loop-place.reading (omega arith)) ∙ c.loop-place.invariant
+    let words = map (λ word. word.now) c.args.words.now in record {
+      value = c.read_words.ensures;
+      last = has_last words c.read_words.result c.read_words.ensures;
+      first = is_first words c.read_words.result c.read_words.ensures;
+    }

@@ -1,6 +1,6 @@
 use Rattle.std.proofs.Common.{Some}
 use Rattle.store_calls.specs.Runs.{opening_text}
-use Rattle.store_calls.proofs.Saying.{says_both}
+use Rattle.capture.proofs.Saying.{says_both}
 use Rattle.store_calls.proofs.running.open_each.Goals as goal
 
 pub loop-preserved : goal.loop-preserved

@@ -1,6 +1,6 @@
 -- What was printed and what is to come is what was to be printed.
 use Rattle.store_calls.specs.Runs.{opening_text}
-use Rattle.store_calls.specs.Sessions.{Says}
+use Rattle.capture.specs.Sessions.{Says}
 use Rattle.store_calls.proofs.running.open_each.Given as goal
 
 abbrev pub invariant-loop : goal.invariant-loop

@@ -1,7 +1,7 @@
 use Rattle.std.proofs.Common.{Some, rules}
 use Rattle.capture.specs.Held.{held}
 use Rattle.store_calls.specs.Runs.{said_on, opening_text}
-use Rattle.store_calls.proofs.Saying.{says_line}
+use Rattle.capture.proofs.Saying.{says_line}
 use Rattle.store_calls.proofs.serving.serve.Goals as goal
 
 pub returns-in-Some : goal.returns-in-Some

@@ -1,6 +1,6 @@
 -- The store stays ready, and what was printed and what is to come is what was to be printed.
 use Rattle.store_calls.specs.Runs.{said_on}
-use Rattle.store_calls.specs.Sessions.{Says}
+use Rattle.capture.specs.Sessions.{Says}
 use Rattle.store_calls.proofs.serving.serve.Given as goal
 
 abbrev pub invariant-loop : goal.invariant-loop

@@ -1,4 +1,5 @@
--- What a part of the program prints: what it leaves to be printed of the lines to come, behind what it printed, is what was to be printed before.
+-- What a part of a program prints for the lines of an input: what it leaves to be printed of the
+-- lines to come, behind what it printed, is what was to be printed before.
 use Rattle.std.specs.Prelude.{◌≡◌, ℕ, List, ◌++◌, Some, Option, IfSome}
 use Rattle.std.specs.Io.KnownBytes.{Appends}
 use Rattle.capture.specs.Lines.{lines_of}
