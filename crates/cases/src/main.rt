@@ -1,5 +1,5 @@
-// The worked examples: those of reading, of values and of a day are a table of the definitions, proved; those of writing are
-// run and printed.
+//! The worked examples: those of reading, of values and of a day are a table of the definitions,
+//! proved; those of writing are run and printed.
 #![tactic(auto)]
 
 mod examples;

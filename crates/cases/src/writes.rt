@@ -1,4 +1,5 @@
-// Writes messages at places of a buffer of 32 bytes, and prints what was answered and what the buffer holds then.
+//! Writes messages at places of a buffer of 32 bytes, and prints what was answered and what the
+//! buffer holds then.
 use forms::refusal::Refusal;
 use messages::code::{Display, Side};
 use messages::message::Message;
@@ -12,7 +13,7 @@ const EMPTY: [u8; 32] = [b'.'; 32];
 // The symbol ABCD with its four spaces.
 const ABCD: u64 = 0x4142_4344_2020_2020;
 
-// A line of 27 bytes at places where it just fits, just does not, and at and past the end.
+/// A line of 27 bytes at places where it just fits, just does not, and at and past the end.
 pub fn show_places<W: Write>(output: &mut W) -> io::Result<()> {
     let cancel = Message::OrderCancel(Cancel {
         time: 34_200_020,
@@ -25,7 +26,8 @@ pub fn show_places<W: Write>(output: &mut W) -> io::Result<()> {
     Ok(())
 }
 
-// A record that lacks nothing but room, and records that no line gives: the first such field is named, also where there is no room.
+/// A record that lacks nothing but room, and records that no line gives: the first such field is
+/// named, also where there is no room.
 pub fn show_fields<W: Write>(output: &mut W) -> io::Result<()> {
     let good = Terms {
         time: 34_200_000,

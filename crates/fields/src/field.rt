@@ -1,4 +1,4 @@
-// What a field of a line is to its reader and its writer, whatever it holds.
+//! What a field of a line is to its reader and its writer, whatever it holds.
 ghost use Rattle.std.specs.Prelude.{◌≡◌, ℕ, Ok, Err, MatchResult};
 ghost use Rattle.layout.specs.Slots.{Slot, width, check_slot, in_range, scan_slot, givable, spell, over};
 
@@ -17,9 +17,12 @@ pub trait Field: Copy {
     fn width(self) -> u8
         ensures { result ≡ width (slot self) };
 
-    // The value at the front of the line, or the place of the first byte that breaks the field's rule.
+    /// The value at the front of the line, or the place of the first byte that breaks the field's
+    /// rule.
     fn scan(self, line: &[u8]) -> Result<Self::Value, u8>
-        ensures { MatchResult result (λ v. scan_slot (slot self) line.now ≡ Ok (number self v)) (λ i. scan_slot (slot self) line.now ≡ Err i) };
+        ensures { MatchResult result
+            (λ v. scan_slot (slot self) line.now ≡ Ok (number self v))
+            (λ i. scan_slot (slot self) line.now ≡ Err i) };
 
     // Whether a value that was read is one that the field allows.
     fn allows(self, value: Self::Value) -> bool

@@ -1,4 +1,4 @@
-// The fields of a line: read, checked and written, each pinned by the definitions of the crate `layout`.
+//! The fields of a line: read, checked and written, each pinned by the definitions of `layout`.
 #![tactic(auto)]
 
 pub mod field;

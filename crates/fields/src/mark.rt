@@ -1,4 +1,5 @@
-// The field that holds the letter of the message itself. It says nothing else, so what is read of it is no value.
+//! The field that holds the letter of the message itself. It says nothing else, so what is read of
+//! it is no value.
 ghost use Rattle.std.specs.Prelude.{[], ◌∷◌};
 ghost use Rattle.layout.specs.Slots.{choice};
 

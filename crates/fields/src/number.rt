@@ -1,4 +1,4 @@
-// Fields of digits: read, checked and written.
+//! Fields of digits: read, checked and written.
 ghost use Rattle.std.specs.Prelude.{◌≡◌, ℕ, ◌^◌, ◌≤◌, Ok, Err, IfSome, MatchResult};
 ghost use Rattle.layout.specs.Slots.{number, scan_slot};
 ghost use Rattle.fields.specs.Slots.{number_slot};
@@ -46,7 +46,9 @@ impl<const BASE: u64, const COUNT: u8> Field for Number<BASE, COUNT> {
 #[inline(never)]
 fn step<const BASE: u64, const COUNT: u8>(line: &[u8]) -> Result<u64, u8>
     requires { (2 ≤ BASE) × (BASE ^ COUNT ≤ 2 ^ 64) }
-    ensures { (low : ℕ) (high : ℕ) → MatchResult result (λ v. scan_slot (number BASE COUNT low high) line.now ≡ Ok v) (λ i. scan_slot (number BASE COUNT low high) line.now ≡ Err i) }
+    ensures { (low : ℕ) (high : ℕ) → MatchResult result
+        (λ v. scan_slot (number BASE COUNT low high) line.now ≡ Ok v)
+        (λ i. scan_slot (number BASE COUNT low high) line.now ≡ Err i) }
 {
     let held = front(line, COUNT);
     let mut value = 0;
@@ -63,11 +65,13 @@ fn step<const BASE: u64, const COUNT: u8>(line: &[u8]) -> Result<u64, u8>
     Ok(value)
 }
 
-// The number of a field that has nothing but digits. They are counted, and none stops the others: so they are read side by side.
+// The number of a field that has nothing but digits. They are counted, and none stops the others:
+// so they are read side by side.
 #[inline(always)]
 fn whole<const BASE: u64, const COUNT: u8>(line: &[u8]) -> Option<u64>
     requires { (2 ≤ BASE) × (BASE ^ COUNT ≤ 2 ^ 64) }
-    ensures { IfSome result (λ v. (low : ℕ) (high : ℕ) → scan_slot (number BASE COUNT low high) line.now ≡ Ok v) }
+    ensures { IfSome result (λ v. (low : ℕ) (high : ℕ) →
+        scan_slot (number BASE COUNT low high) line.now ≡ Ok v) }
 {
     let held = line.get(..usize::from(COUNT))?;
     let mut value: u64 = 0;

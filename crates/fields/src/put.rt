@@ -1,6 +1,4 @@
-// Writing bytes over those of a buffer.
-//
-// What is required of a base here is a fact of each sort of field (`Number`, `Text`): a type for it would stand between them and three private functions, and spare one clause.
+//! Writing bytes over those of a buffer.
 ghost use Rattle.std.specs.Prelude.{◌≡◌, ◌<◌, ◌≤◌, [], ◌∷◌, length};
 ghost use Rattle.layout.specs.Bytes.{byte_within};
 ghost use Rattle.layout.specs.Digits.{digit_bytes};
@@ -31,7 +29,8 @@ fn fill(part: &mut [u8], base: u64, value: u64)
     }
 }
 
-// The byte that stands for a digit of the base: up to base 36 a digit or a letter, above it the byte itself.
+// The byte that stands for a digit of the base: up to base 36 a digit or a letter, above it the byte
+// itself.
 fn byte_in(base: u64, digit: u64) -> u8
     requires { (digit < base) × (base ≤ 256) }
     ensures { result ≡ byte_within base digit }

@@ -1,4 +1,4 @@
-// Reading any field.
+//! Reading any field.
 ghost use Rattle.std.specs.Prelude.{◌≡◌, Ok, Err, MatchResult};
 ghost use Rattle.layout.specs.Slots.{read_slot};
 
@@ -6,11 +6,16 @@ use crate::field::Field;
 use crate::place::{Place, past};
 use layout::fault::FieldFault;
 
-// What every field has of its own accord. It is no method of `Field`, since one that all fields share is compiled as a call for each, and takes half as long again.
+/// What every field has of its own accord. It stands apart from `Field`, so that it is compiled in
+/// place for each field.
 pub trait Reading: Field {
-    // The value at the front of the line, and what is left of the line.
+    /// The value at the front of the line, and what is left of the line; or the fault, at the place
+    /// of the field in the line.
     fn read(self, line: &[u8], place: Place) -> Result<(Self::Value, &[u8]), FieldFault>
-        ensures { MatchResult result (λ p. read_slot (Self.Field.slot self) place.letter place.offset line.now ≡ Ok (Self.Field.number self p.0, p.1.now)) (λ e. read_slot (Self.Field.slot self) place.letter place.offset line.now ≡ Err e) };
+        ensures { MatchResult result
+            (λ p. read_slot (Self.Field.slot self) place.letter place.offset line.now
+            ≡ Ok (Self.Field.number self p.0, p.1.now))
+            (λ e. read_slot (Self.Field.slot self) place.letter place.offset line.now ≡ Err e) };
 }
 
 impl<F: Field> Reading for F {

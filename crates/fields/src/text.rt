@@ -1,4 +1,4 @@
-// Padded fields: read, checked and written.
+//! Padded fields: read, checked and written.
 ghost use Rattle.std.specs.Prelude.{◌≡◌, ◌-◌, ◌/◌, ◌^◌, ◌<◌, ◌≤◌, not, ◌&&◌, replicate, if◌then◌else◌, nat_le};
 ghost use Rattle.std.specs.Int.Digits.{number_from_digits_after};
 ghost use Rattle.layout.specs.Bytes.{is_blank, has_class};
@@ -23,7 +23,7 @@ impl Field for Text {
         self.width
     }
 
-    // As for numbers, but for the rule of a byte and for what is carried from one to the next: one scan for both would take both as closures.
+    // Byte by byte, up to the first that breaks the rule.
     #[inline(always)]
     fn scan(self, line: &[u8]) -> Result<u64, u8> {
         let held = front(line, self.width);
@@ -96,7 +96,7 @@ fn has(text: Class, class: ByteClass) -> bool
     }
 }
 
-// The number with so many spaces after it. Step by step, here and below, since 256^8 does not fit a `u64`.
+// The number with so many spaces after it. Step by step, here and below: 256^8 does not fit a `u64`.
 fn filled(value: u64, count: u8) -> u64
     requires { (count ≤ 8) × (value < 256 ^ (8 - count)) }
     ensures { result ≡ number_from_digits_after 256 value (replicate count 32) }

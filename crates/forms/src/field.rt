@@ -1,4 +1,4 @@
-// How a field is shown: its word, and then its value unless it is blank.
+//! How a field is shown: its word, and then its value unless it is blank.
 ghost use Rattle.std.specs.Prelude.{◌≤◌, ◌∷◌, [], replicate, codes};
 ghost use Rattle.std.specs.Fmt.{WritesOnOk};
 ghost use Rattle.layout.specs.Slots.{spell, over};
@@ -54,7 +54,10 @@ fn show_field<W: fmt::Write, F: Field<Value = u64>, const SIZE: usize>(
     value: u64,
 ) -> fmt::Result
     requires { SIZE ≤ 12 }
-    ensures { WritesOnOk W.write_str_gives f.old result (said word.now (without_spaces (over 0 (spell (F.Field.slot field) (F.Field.number field value)) (replicate SIZE 32)))) f.new }
+    ensures { WritesOnOk W.write_str_gives f.old result
+        (said word.now (without_spaces
+        (over 0 (spell (F.Field.slot field) (F.Field.number field value)) (replicate SIZE 32))))
+        f.new }
 {
     show_text(f, word, &spelled::<F, SIZE>(field, value))
 }
@@ -65,15 +68,17 @@ pub(crate) fn show_letter<W: fmt::Write, L: Lettered>(
     word: &str,
     value: L,
 ) -> fmt::Result
-    ensures { WritesOnOk W.write_str_gives f.old result (letter_said word.now (L.Lettered.written value)) f.new }
+    ensures { WritesOnOk W.write_str_gives f.old result
+        (letter_said word.now (L.Lettered.written value)) f.new }
 {
     show_text(f, word, &[value.into()])
 }
 
-// Whole, since a character at a time takes far longer.
+// The text is written whole, and not a character at a time.
 #[tactic(auto, unfolding(crate::specs::Messages::said))]
 fn show_text<W: fmt::Write>(f: &mut fmt::Formatter<W>, word: &str, text: &[u8]) -> fmt::Result
-    ensures { WritesOnOk W.write_str_gives f.old result (said word.now (without_spaces text.now)) f.new }
+    ensures { WritesOnOk W.write_str_gives f.old result
+        (said word.now (without_spaces text.now)) f.new }
 {
     let text = legible(text)?;
     if text.is_empty() {

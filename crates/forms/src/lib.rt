@@ -1,4 +1,4 @@
-// How messages and refusals are shown: bracketed forms, one word before each value.
+//! How messages and refusals are shown: bracketed forms, one word before each value.
 #![tactic(auto)]
 
 mod field;

@@ -63,7 +63,8 @@ fn show_terms<W: fmt::Write, S: Lettered>(
     letter: u8,
     terms: &Terms<S>,
 ) -> fmt::Result
-    ensures { WritesOnOk W.write_str_gives f.old result (terms_said S.written letter terms.now) f.new }
+    ensures { WritesOnOk W.write_str_gives f.old result
+        (terms_said S.written letter terms.now) f.new }
 {
     show_head(f, letter, terms.time)?;
     show_id(f, "order", terms.order)?;

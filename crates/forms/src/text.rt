@@ -52,7 +52,8 @@ impl fmt::Display for SymbolText {
 // The bytes of a field of so many, as a line would have it.
 pub(crate) fn spelled<F: Field<Value = u64>, const SIZE: usize>(field: F, value: u64) -> [u8; SIZE]
     requires { SIZE ≤ 12 }
-    ensures { result ≡ over 0 (spell (F.Field.slot field) (F.Field.number field value)) (replicate SIZE 32) }
+    ensures { result
+        ≡ over 0 (spell (F.Field.slot field) (F.Field.number field value)) (replicate SIZE 32) }
 {
     let mut text = [b' '; SIZE];
     field.put(&mut text, 0, value);

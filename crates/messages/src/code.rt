@@ -20,8 +20,8 @@ pub enum TradeSide {
     Buy,
 }
 
-/// Whether the order is part of the quote that the exchange gives the SIP, the securities information
-/// processor, which joins the quotes of all exchanges.
+/// Whether the order is part of the quote that the exchange gives the SIP, the securities
+/// information processor, which joins the quotes of all exchanges.
 #[derive(Clone, Copy, PartialEq, Eq, Debug)]
 pub enum Display {
     Quoted,

@@ -1,5 +1,4 @@
-// The interface of a kind of message. A kind goes through its fields three times, to read, to check and to write them, and each step of reading answers a field and the rest
-// of the line. One list of the fields, as a type of nested pairs, would hide the names and the offsets, and is no plainer.
+//! The interface of a kind of message.
 ghost use Rattle.std.specs.Prelude.{◌≡◌, ℕ, List, Ok, Err, MatchResult};
 ghost use Rattle.layout.specs.Fields.{Field, read_fields, check_fields, put_fields};
 ghost use Rattle.fields.specs.declared.mark.Mark.{Mark};
@@ -13,7 +12,11 @@ use fields::mark::Mark;
 use fields::place::Place;
 use layout::fault::FieldFault;
 
+/// A kind of message: its letter, the length of its lines, and its fields, through which it goes
+/// three times: to read, to check and to write them. Each step of reading answers a field and the
+/// rest of the line.
 pub trait Kind {
+    /// Byte 8 of its lines.
     const LETTER: u8;
 
     ghost LETTER: { ℕ };
@@ -32,23 +35,25 @@ pub trait Kind {
     // What a record says, field by field.
     ghost values: { Self.Record → List ℕ };
 
-    // The message of this kind that says what the record does.
+    /// The message of this kind that says what the record does.
     fn message(said: Self::Record) -> Message
         ensures { told result ≡ (row, values said) };
 
-    // The fields of a line, one after the other, or the first fault.
+    /// The fields of a line, one after the other, or the first fault.
     fn read(line: &[u8]) -> Result<Self::Record, FieldFault>
-        ensures { MatchResult result (λ c. read_fields LETTER fields line.now ≡ Ok (values c)) (λ e. read_fields LETTER fields line.now ≡ Err e) };
+        ensures { MatchResult result
+            (λ c. read_fields LETTER fields line.now ≡ Ok (values c))
+            (λ e. read_fields LETTER fields line.now ≡ Err e) };
 
-    // The first field that no line could give, if there is one.
+    /// The first field that no line could give, if there is one.
     fn check(said: &Self::Record) -> Result<(), FieldFault>
         ensures { result ≡ check_fields LETTER fields (values said.now) };
 
-    // Writes each field over the bytes at its offset.
+    /// Writes each field over the bytes at its offset.
     fn put(said: &Self::Record, room: &mut [u8])
         ensures { room.new ≡ put_fields fields (values said.now) room.old };
 
-    // The place of a field that starts at the offset.
+    /// The place of a field that starts at the offset.
     fn at(offset: u8) -> Place
         ensures { result ≡ record { letter = LETTER; offset = offset } }
     {
@@ -58,7 +63,7 @@ pub trait Kind {
         }
     }
 
-    // The field of the letter itself.
+    /// The field of the letter itself.
     fn mark() -> Mark
         ensures { result ≡ record { letter = LETTER } }
     {

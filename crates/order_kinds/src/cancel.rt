@@ -1,4 +1,4 @@
-// Order Cancel: X. Three lists of its own fields; `Kind` says why these are written out.
+//! Order Cancel: X.
 ghost use Rattle.std.specs.Prelude.{refl};
 ghost use Rattle.messages.specs.Layouts.{letter_of, length_of, layout_of};
 ghost use Rattle.messages.specs.Types.{OrderCancel as kind};

@@ -1,4 +1,4 @@
-// Symbol Clear: s. Three lists of its own fields; `Kind` says why these are written out.
+//! Symbol Clear: s.
 ghost use Rattle.std.specs.Prelude.{refl};
 ghost use Rattle.messages.specs.Layouts.{letter_of, length_of, layout_of};
 ghost use Rattle.messages.specs.Types.{SymbolClear as kind};

@@ -1,4 +1,4 @@
-// Order Executed: E. Three lists of its own fields; `Kind` says why these are written out.
+//! Order Executed: E.
 ghost use Rattle.std.specs.Prelude.{refl};
 ghost use Rattle.messages.specs.Layouts.{letter_of, length_of, layout_of};
 ghost use Rattle.messages.specs.Types.{OrderExecuted as kind};

@@ -1,4 +1,4 @@
-// The kinds of messages that change the book of orders.
+//! The kinds of messages that change the book of orders.
 #![tactic(auto)]
 
 pub mod add;

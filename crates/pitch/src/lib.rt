@@ -1,4 +1,4 @@
-// Messages of the feed: read from a line, and written into a buffer.
+//! Messages of the feed: read from a line, and written into a buffer.
 #![tactic(auto)]
 
 pub mod reader;

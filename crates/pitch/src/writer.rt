@@ -1,4 +1,4 @@
-// Writing a message.
+//! Writing a message.
 ghost use Rattle.std.specs.Prelude.{◌≡◌, ◌+◌, ◌≤◌, length, nat_le};
 ghost use Rattle.layout.specs.Slots.{over};
 ghost use Rattle.messages.specs.declared.message.Message.{Message};
@@ -15,8 +15,8 @@ use order_kinds::executed::OrderExecuted;
 use trade_kinds::trade::{TradeLong, TradeShort};
 use trade_kinds::trade_break::TradeBreak;
 
-// Writes the message's line into the buffer from the place on, and answers its length. The two are the caller's, who may write one line after another into one
-// buffer: a struct of both would be made for one call.
+/// Writes the message's line into the buffer from the place on, and answers its length. A refusal
+/// changes no byte of the buffer.
 pub fn write(message: &Message, buf: &mut [u8], place: usize) -> Result<usize, MessageFault>
     ensures says { result ≡ fitted message.now place (length buf.old) (checked message.now) }
     ensures leaves { buf.new ≡ placed message.now place buf.old (checked message.now) }
@@ -41,15 +41,17 @@ fn write_line(message: &Message, buf: &mut [u8], place: usize) -> Result<usize, 
     }
 }
 
-// Writes the line of the message of the kind that says what the record does. The fields are checked before the room, and both before
-// the first byte is written.
+// Writes the line of the message of the kind that says what the record does. The fields are checked
+// before the room, and both before the first byte is written.
 fn write_kind<K: Kind>(
     said: &K::Record,
     buf: &mut [u8],
     place: usize,
 ) -> Result<usize, MessageFault>
-    ensures says { (m : Message) → told m ≡ (K.Kind.row, K.values said.now) → result ≡ fitted m place (length buf.old) (checked m) }
-    ensures leaves { (m : Message) → told m ≡ (K.Kind.row, K.values said.now) → buf.new ≡ placed m place buf.old (checked m) }
+    ensures says { (m : Message) → told m ≡ (K.Kind.row, K.values said.now) →
+        result ≡ fitted m place (length buf.old) (checked m) }
+    ensures leaves { (m : Message) → told m ≡ (K.Kind.row, K.values said.now) →
+        buf.new ≡ placed m place buf.old (checked m) }
 {
     K::check(said)?;
     if !has_room(buf.len(), place, K::LENGTH) {
@@ -59,7 +61,8 @@ fn write_kind<K: Kind>(
     Ok(K::LENGTH)
 }
 
-// Whether so many bytes fit from the place on; no sum, which a place near the greatest number would pass.
+// Whether so many bytes fit from the place on: a sum of the two would not fit its type at a place
+// near the greatest number.
 fn has_room(len: usize, place: usize, size: usize) -> bool
     ensures { result ≡ nat_le (place + size) len }
 {
@@ -69,7 +72,8 @@ fn has_room(len: usize, place: usize, size: usize) -> bool
 // Lends on the part of the buffer that starts at the place.
 fn put_from<K: Kind>(said: &K::Record, buf: &mut [u8], place: usize)
     requires { place + K.LENGTH ≤ length buf.old }
-    ensures { (m : Message) → told m ≡ (K.Kind.row, K.values said.now) → buf.new ≡ over place (written m) buf.old }
+    ensures { (m : Message) → told m ≡ (K.Kind.row, K.values said.now) →
+        buf.new ≡ over place (written m) buf.old }
 {
     K::put(said, &mut buf[place..]);
 }

@@ -1,4 +1,4 @@
-// A whole buffer of lines, read and summed up in one call.
+//! A whole buffer of lines, read and summed up in one call.
 #![tactic(auto)]
 
 ghost use Rattle.std.specs.Prelude.{◌≡◌};
@@ -9,12 +9,12 @@ mod sum;
 use capture::split::split_line;
 use sum::add_line;
 
-// Reads every line of the buffer that ends in 0x0A, and answers the checksum of what the lines say.
+/// Reads every line of the buffer that ends in 0x0A, and answers the checksum of what the lines
+/// say.
 #[unsafe(no_mangle)]
 pub extern "C" fn read_capture(buf: &[u8]) -> u64
     ensures { result ≡ checksum buf.now }
 {
-    // As a listing goes through its chunks, where a line may fail for want of memory: one loop for both would take a closure and its error.
     let mut sum = 0;
     let mut rest = buf;
     loop {

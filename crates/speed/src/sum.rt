@@ -63,7 +63,8 @@ fn add_message(sum: u64, message: &Message) -> u64
 
 // The sum with the fields that both forms of an add have.
 fn add_order(sum: u64, letter: u8, add: &AddOrder) -> u64
-    ensures { result ≡ mixed_all sum (terms_then side_letter letter add.now.terms (display_letter add.now.display ∷ [])) }
+    ensures { result ≡ mixed_all sum
+        (terms_then side_letter letter add.now.terms (display_letter add.now.display ∷ [])) }
 {
     mix(add_terms(sum, letter, &add.terms), letter_of(add.display))
 }

@@ -1,4 +1,4 @@
-// What a record says beside the terms of an order.
+//! What a record says beside the terms of an order.
 ghost use Rattle.std.specs.Prelude.{◌≡◌, ℕ, ◌+◌, List, [], ◌∷◌, Ok, Err, MatchResult};
 ghost use Rattle.layout.specs.Fields.{Field, read_fields, check_fields, put_fields};
 ghost use Rattle.layout.specs.Slots.{Slot};
@@ -17,8 +17,8 @@ use layout::fault::FieldFault;
 use messages::code::{CUSTOMER, DISPLAY, Side, TradeSide};
 use messages::record::{AddOrder, LongAdd, Terms, Trade};
 
-// A record with the terms of an order and others. A line gives the others after the price, which ends later in the long form than in
-// the short one.
+/// A record with the terms of an order and others. A line gives the others after the price, which
+/// ends later in the long form than in the short one.
 pub trait Termed: Sized {
     type Side: Lettered;
 
@@ -33,14 +33,17 @@ pub trait Termed: Sized {
     fn terms(&self) -> &Terms<Self::Side>
         ensures { result.now ≡ terms self.now };
 
-    // The record of these terms, and of the line from the first field after them on.
+    /// The record of these terms, and of the line from the first field after them on.
     fn read_others(
         given: &Terms<Self::Side>,
         line: &[u8],
         letter: u8,
         form: Text,
     ) -> Result<Self, FieldFault>
-        ensures { MatchResult result (λ r. (terms r ≡ given.now) × (read_fields letter (others (text_slot form)) line.now ≡ Ok (said r))) (λ e. read_fields letter (others (text_slot form)) line.now ≡ Err e) };
+        ensures { MatchResult result
+            (λ r. (terms r ≡ given.now)
+            × (read_fields letter (others (text_slot form)) line.now ≡ Ok (said r)))
+            (λ e. read_fields letter (others (text_slot form)) line.now ≡ Err e) };
 
     fn check_others(&self, letter: u8, form: Text) -> Result<(), FieldFault>
         ensures { result ≡ check_fields letter (others (text_slot form)) (said self.now) };
@@ -93,7 +96,8 @@ impl Termed for LongAdd {
 
     ghost others = { long_add_fields };
 
-    ghost said = { λ r. display_letter r.add.display ∷ r.participant ∷ customer_letter r.customer ∷ [] };
+    ghost said = { λ r.
+        display_letter r.add.display ∷ r.participant ∷ customer_letter r.customer ∷ [] };
 
     fn terms(&self) -> &Terms<Side> {
         &self.add.terms

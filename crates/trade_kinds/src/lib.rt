@@ -1,4 +1,4 @@
-// The kinds of messages that tell of trades and of their breaks.
+//! The kinds of messages that tell of trades and of their breaks.
 #![tactic(auto)]
 
 pub mod trade;
