@@ -23,7 +23,6 @@ use std::io;
 use std::io::Write;
 use std::slice::from_ref;
 use store::store::Store;
-use store::sweep::remove_picked;
 use store::walk::walk;
 use tally::sum::Counting;
 use words::arguments::bytes_of;
@@ -150,7 +149,8 @@ impl<'a, 'o, W: Write> Bench<'a, 'o, W> {
     ) -> io::Result<()> {
         counts.met = walk(store, &Counting).number;
         watch.lap(self.rt, self.output, "walk", counts.met)?;
-        counts.swept = remove_picked(store, &Even, &Counting).number;
+        store.sweep(&Even);
+        counts.swept = counts.met.saturating_sub(store.count());
         watch.lap(self.rt, self.output, "sweep", counts.met)?;
         counts.kept = walk(store, &Counting).number;
         watch.lap(self.rt, self.output, "walk-kept", counts.kept)?;

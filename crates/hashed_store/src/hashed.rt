@@ -23,13 +23,15 @@ use store::visit::Visit;
 pub struct HashedStore<'a, R: Record, H: Home = Modulo> {
     pub(crate) slots: Slots<'a, R, H>,
     pub(crate) count: usize,
-    // no record has been farther than this from its home since the last emptying: a search need not go farther
+    // no record has been farther than this from its home since the last emptying: a search need
+    // not go farther
     pub(crate) reach: usize,
 }
 
 impl<'a, R: Record, H: Home> HashedStore<'a, R, H> {
-    /// A store over as many slots as rows are lent, with a tag for each, and empty whatever the memory
-    /// holds. Where the tags are not as many as the rows, both come back, and nothing was written.
+    /// A store over as many slots as rows are lent, with a tag for each, and empty whatever the
+    /// memory holds. Where the tags are not as many as the rows, both come back, and nothing was
+    /// written.
     pub fn new(
         tags: &'a mut [u8],
         rows: &'a mut [R],
@@ -38,7 +40,8 @@ impl<'a, R: Record, H: Home> HashedStore<'a, R, H> {
         ensures ready { IfOk result ⟦<HashedStore<'a, R, H> as Store<R>>⟧.ready }
         ensures empty { IfOk result (λ store. ⟦<HashedStore<'a, R, H> as Store<R>>⟧.model store
             ≡ record { rows = []; limit = length rows.old }) }
-        ensures uneven { IfErr result (λ back. (back.tags.now ≡ tags.old) × (back.rows.now ≡ rows.old)) }
+        ensures uneven { IfErr result (λ back.
+            (back.tags.now ≡ tags.old) × (back.rows.now ≡ rows.old)) }
     {
         if tags.len() != rows.len() {
             return Err(UnevenSlots { tags, rows });

@@ -1,6 +1,6 @@
-// The slots: a row each, and beside them, in a slice of its own, a tag, which is 0 where the slot is
-// empty and else tells most keys from that of the row. The tags of many slots share a line of the
-// cache, so a search seldom looks at a row that it does not want.
+// The slots: a row each, and beside them, in a slice of its own, a tag, which is 0 where the slot
+// is empty and else tells most keys from that of the row. The tags of many slots share a line of
+// the cache, so a search seldom looks at a row that it does not want.
 ghost use Rattle.std.specs.Prelude.{◌≡◌, ◌<◌, length, None, replicate, slice_set};
 ghost use Rattle.hashed_store.specs.Lent.{slots_of, Tagged};
 ghost use Rattle.hashed_store.specs.Looks.{Looked};
@@ -135,7 +135,8 @@ fn read<R: Copy>(tags: &[u8], rows: &[R], place: usize) -> Option<R>
 
 #[tactic(auto, using(crate::proofs::Lent::below_tags, crate::proofs::Lent::below_rows))]
 fn look_at<R: Record>(tags: &[u8], rows: &[R], place: usize, key: u64, tag: u8) -> Look
-    requires { (place < length (slots_of tags.now rows.now)) × (tag ≡ tag_of key) × Tagged R.Record.key tags.now rows.now }
+    requires { (place < length (slots_of tags.now rows.now)) × (tag ≡ tag_of key)
+        × Tagged R.Record.key tags.now rows.now }
     ensures { Looked R.Record.key key (slot_at (slots_of tags.now rows.now) place) result }
 {
     let held = tags[place];
@@ -155,7 +156,8 @@ fn look_at<R: Record>(tags: &[u8], rows: &[R], place: usize, key: u64, tag: u8) 
 #[tactic(auto, using(crate::proofs::Lent::below_tags, crate::proofs::Lent::below_rows, crate::proofs::Lent::filled_slots, crate::proofs::Lent::emptied_slots, crate::proofs::Lent::tagged_filled, crate::proofs::Lent::tagged_emptied))]
 #[inline(always)]
 fn write<R: Record>(tags: &mut [u8], rows: &mut [R], place: usize, slot: Option<R>)
-    requires { (place < length (slots_of tags.old rows.old)) × Tagged R.Record.key tags.old rows.old }
+    requires { (place < length (slots_of tags.old rows.old))
+        × Tagged R.Record.key tags.old rows.old }
     ensures sets { slots_of tags.new rows.new ≡ slice_set (slots_of tags.old rows.old) place slot }
     ensures tagged { Tagged R.Record.key tags.new rows.new }
 {

@@ -1,4 +1,4 @@
-// A day over stores of the sort that is asked for.
+//! A day over stores of the sort that is asked for.
 ghost use Rattle.std.specs.Prelude.{◌≡◌, length, IfSome, OnOk};
 ghost use Rattle.std.specs.Io.KnownBytes.{Appends};
 ghost use Rattle.day_rules.specs.Days.{opening};
@@ -24,15 +24,18 @@ use std::io::{BufRead, Write};
 use store::record::Record;
 use store::store::Store;
 
-// Replays the day of an input as the options ask, over memory that is taken once and before the first line, and prints its report and nothing else. What is printed does not
-// depend on the sort of the stores.
+/// Replays the day of an input as the options ask, over memory that is taken once and before the
+/// first line, and prints its report and nothing else. What is printed does not depend on the sort
+/// of the stores.
 pub fn replay<R: BufRead, W: Write>(
     heap: Global,
     options: &Options,
     input: &mut R,
     output: &mut W,
 ) -> io::Result<()>
-    ensures { OnOk result (IfSome (R.remaining input.old) (λ bytes. Appends (W.contents output.old) (W.contents output.new) (replay_text options.now bytes))) }
+    ensures { OnOk result (IfSome (R.remaining input.old) (λ bytes.
+        Appends (W.contents output.old) (W.contents output.new)
+            (replay_text options.now bytes))) }
 {
     let mut places = vec![in heap; SymbolRow::BLANK; options.room.symbols as usize]?;
     let places = places.as_mut_slice();
@@ -50,7 +53,9 @@ fn over_rows<R: BufRead, W: Write>(
     input: &mut R,
     output: &mut W,
 ) -> io::Result<()>
-    ensures { OnOk result (IfSome (R.remaining input.old) (λ bytes. Appends (W.contents output.old) (W.contents output.new) (room_printed (length places.old) options.now bytes))) }
+    ensures { OnOk result (IfSome (R.remaining input.old) (λ bytes.
+        Appends (W.contents output.old) (W.contents output.new)
+            (room_printed (length places.old) options.now bytes))) }
 {
     let room = &options.room;
     let mut orders = vec![in heap; Order::BLANK; room.orders as usize]?;
@@ -76,7 +81,9 @@ fn over_slots<H: Home, R: BufRead, W: Write>(
     input: &mut R,
     output: &mut W,
 ) -> io::Result<()>
-    ensures { OnOk result (IfSome (R.remaining input.old) (λ bytes. Appends (W.contents output.old) (W.contents output.new) (room_printed (length places.old) options.now bytes))) }
+    ensures { OnOk result (IfSome (R.remaining input.old) (λ bytes.
+        Appends (W.contents output.old) (W.contents output.new)
+            (room_printed (length places.old) options.now bytes))) }
 {
     let room = &options.room;
     let order_slots = slots(room.orders) as usize;
@@ -110,7 +117,7 @@ fn over_slots<H: Home, R: BufRead, W: Write>(
 // A store over slots of which there are as many tags as rows.
 fn hashed<'a, R: Record, H: Home>(tags: &'a mut [u8], rows: &'a mut [R]) -> HashedStore<'a, R, H>
     requires { length tags.old ≡ length rows.old }
-    ensures limit { (⟦<HashedStore<'a, R, H> as Store<R>>⟧.model result).limit ≡ length rows.old }
+    ensures { (⟦<HashedStore<'a, R, H> as Store<R>>⟧.model result).limit ≡ length rows.old }
 {
     let Ok(store) = HashedStore::new(tags, rows) else {
         unreachable!()
@@ -132,7 +139,11 @@ fn over<
     input: &mut R,
     output: &mut W,
 ) -> io::Result<()>
-    ensures { OnOk result (IfSome (R.remaining input.old) (λ bytes. Appends (W.contents output.old) (W.contents output.new) (printed (length places.old) options.now.shown (opening (O.Store.model stores.0) (E.Store.model stores.1) (S.Store.model stores.2) options.now.room.day_limit) bytes))) }
+    ensures { OnOk result (IfSome (R.remaining input.old) (λ bytes.
+        let day = opening (O.Store.model stores.0) (E.Store.model stores.1)
+            (S.Store.model stores.2) options.now.room.day_limit in
+        Appends (W.contents output.old) (W.contents output.new)
+            (printed (length places.old) options.now.shown day bytes))) }
 {
     let (orders, executions, symbols) = stores;
     if options.stores.front {
@@ -168,7 +179,11 @@ fn keep<
     input: &mut R,
     output: &mut W,
 ) -> io::Result<()>
-    ensures { OnOk result (IfSome (R.remaining input.old) (λ bytes. Appends (W.contents output.old) (W.contents output.new) (printed (length places.old) options.now.shown (opening (O.Store.model stores.0) (E.Store.model stores.1) (S.Store.model stores.2) options.now.room.day_limit) bytes))) }
+    ensures { OnOk result (IfSome (R.remaining input.old) (λ bytes.
+        let day = opening (O.Store.model stores.0) (E.Store.model stores.1)
+            (S.Store.model stores.2) options.now.room.day_limit in
+        Appends (W.contents output.old) (W.contents output.new)
+            (printed (length places.old) options.now.shown day bytes))) }
 {
     let (orders, executions, symbols) = stores;
     let mut ledger = Ledger::open(orders, executions, symbols, options.room.day_limit);

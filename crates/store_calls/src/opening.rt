@@ -23,7 +23,8 @@ use std::io::{BufRead, Write};
 use store::store::Store;
 use words::kind::Kind;
 
-// Opens the store, and answers lines from it until one opens another: that one, or none at the end of the input.
+// Opens the store, and answers lines from it until one opens another: that one, or none at the end
+// of the input.
 pub(crate) fn open<R: BufRead, W: Write>(
     heap: Global,
     opening: Opening,
@@ -31,7 +32,11 @@ pub(crate) fn open<R: BufRead, W: Write>(
     input: &mut R,
     output: &mut W,
 ) -> io::Result<Option<Opening>>
-    ensures { IfOk result (λ next. Says (R.remaining input.old) (R.remaining input.new) (W.contents output.old) (W.contents output.new) (opening_text (Some opening) count.old.lines) (opening_text next count.new.lines)) }
+    ensures { IfOk result (λ next.
+        Says (R.remaining input.old) (R.remaining input.new)
+            (W.contents output.old) (W.contents output.new)
+            (opening_text (Some opening) count.old.lines)
+            (opening_text next count.new.lines)) }
 {
     // An arm each: a store borrows its memory, which is of another type in each.
     match opening.kind {
@@ -53,7 +58,11 @@ fn open_hashed<H: Home, R: BufRead, W: Write>(
     input: &mut R,
     output: &mut W,
 ) -> io::Result<Option<Opening>>
-    ensures { IfOk result (λ next. Says (R.remaining input.old) (R.remaining input.new) (W.contents output.old) (W.contents output.new) (opening_text (Some opening) count.old.lines) (opening_text next count.new.lines)) }
+    ensures { IfOk result (λ next.
+        Says (R.remaining input.old) (R.remaining input.new)
+            (W.contents output.old) (W.contents output.new)
+            (opening_text (Some opening) count.old.lines)
+            (opening_text next count.new.lines)) }
 {
     // Not 0: the store empties its memory, whatever that holds.
     let mut tags = vec![in heap; 255u8; opening.limit as usize]?;
@@ -72,7 +81,11 @@ fn open_over<R: BufRead, W: Write, S: Store<Order> + Drop>(
     input: &mut R,
     output: &mut W,
 ) -> io::Result<Option<Opening>>
-    ensures { IfOk result (λ next. Says (R.remaining input.old) (R.remaining input.new) (W.contents output.old) (W.contents output.new) (begun_text count.old.lines (stored_over front (emptied (S.Store.model below)))) (opening_text next count.new.lines)) }
+    ensures { IfOk result (λ next.
+        Says (R.remaining input.old) (R.remaining input.new)
+            (W.contents output.old) (W.contents output.new)
+            (begun_text count.old.lines (stored_over front (emptied (S.Store.model below))))
+            (opening_text next count.new.lines)) }
 {
     below.empty();
     show(Reply::Opened(below.limit()), count, output)?;
