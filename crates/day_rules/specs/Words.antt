@@ -160,7 +160,7 @@ fill_with x (e ∷ es) = cond (e.id == x) (Some e) (fill_with x es)
 -- marked as broken, if it was broken any times
 abbrev pub marked_if : ℕ → Option Execution → Option Execution
 marked_if times None = None
-marked_if times (Some e) = Some (cond (times == 0) e (record { id = e.id; symbol = e.symbol; price = e.price; shares = e.shares; broken = true }))
+marked_if times (Some e) = Some (cond (times == 0) e (record e { broken = true }))
 
 -- the execution or trade with the Execution ID, as it was accepted, broken if an accepted break carries the ID
 unfoldable pub logged_execution : ℕ → History → Option Execution
@@ -168,7 +168,7 @@ logged_execution x h = marked_if (times_broken x h) (fill_with x (fills h))
 
 -- the order as it was added, with so many shares left
 abbrev pub with_left : ℕ → Order → Order
-with_left n o = record { id = o.id; symbol = o.symbol; price = o.price; shares = n; side = o.side; display = o.display }
+with_left n o = record o { shares = n }
 
 -- what is left of an order after a clear, or after so many shares were taken off
 abbrev pub left_of_add : Option Order → (since : History) → ℕ → Option Order
