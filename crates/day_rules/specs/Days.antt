@@ -1,5 +1,5 @@
 -- A day as a ledger keeps it.
-use Rattle.std.specs.Prelude.{ℕ, List, [], min, max}
+use Rattle.std.specs.Prelude.{ℕ, [], min, max}
 use Rattle.records.specs.declared.order.Order.{Order}
 use Rattle.records.specs.declared.execution.Execution.{Execution}
 use Rattle.records.specs.declared.symbol_row.SymbolRow.{SymbolRow}
