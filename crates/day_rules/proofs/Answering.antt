@@ -1,20 +1,23 @@
 -- What each accepted message is answered, in words of the log that ends with it.
-use Rattle.std.proofs.Common.{◌≡◌, ℕ, ◌<◌, ◌≤◌, true, false, ltb, ◌∷◌, Some, None, Ok, Option, refl, sym, ap, ◌∙◌, subst, ⊎_elim, arith}
+use Rattle.std.proofs.Common.{◌≡◌, ℕ, ◌<◌, ◌≤◌, true, false, ltb, ◌∷◌, length, Some, None, Ok, Option, refl, sym, ap, ◌∙◌, subst, ⊎_elim, arith}
 use Rattle.std.proofs.lemmas.Bool.{cases_eq, eq-eqb, ne_eqb, ltb-false}
 use Rattle.records.specs.declared.order.Order.{Order}
 use Rattle.records.specs.declared.execution.Execution.{Execution}
 use Rattle.records.specs.Keys.{execution_key}
-use Rattle.store.specs.Lists.{lookup}
+use Rattle.store.specs.Lists.{lookup, those}
 use Rattle.store.proofs.Ruling.{found-key, found-each}
 use Rattle.day_rules.specs.declared.outcome.Outcome.{Outcome}
 use Rattle.day_rules.specs.Days.{Day}
 use Rattle.day_rules.specs.Events.{Event, clears, adds, executes, cancels, trades, breaks}
 use Rattle.day_rules.specs.Rules.{order_in, execution_in, shares_at_hand, may_trade, may_execute, may_cancel, unbroken, may_break, allowed, row_after, leaving, breaking, broken, after, outcome, counted}
 use Rattle.day_rules.specs.Words.{History, fills, fill_with, marked_if, logged_order, logged_execution, row_needed, volume_of, IsWhatIsLeft, symbol_of, IsAnswer}
+use Rattle.book.specs.Books.{is_of}
+use Rattle.day_rules.proofs.Clearing.{orders-left}
+use Rattle.day_rules.proofs.Sums.{length-those}
 use Rattle.day_rules.proofs.Orders.{left_if, others_of, Takes, its_left}
 use Rattle.day_rules.proofs.Rows.{row-held, row-filled, one_less}
 use Rattle.day_rules.proofs.Standing.{NarrowFill, EventFits, Stands, said, stored}
-use Rattle.day_rules.proofs.Stepping.{taken-by-execution, taken-by-cancel, few_fills, joined_fill, at_hand, in_hand, still_whole}
+use Rattle.day_rules.proofs.Stepping.{taken-by-execution, taken-by-cancel, few, few_fills, joined_fill, at_hand, in_hand, still_whole}
 use Rattle.day_rules.proofs.Traded.{stored-traded}
 
 -- what is answered is what is left of the order
@@ -35,13 +38,16 @@ module _ (h : History) (d : Day) (st : Stands h d) (room : d.accepted < d.day_li
   abbrev Then : Event → Type 0
   Then e = Stands (said e (outcome e d) ∷ h) (counted (after e d))
 
-  -- no order of the symbol is left
+  -- as many orders of the symbol as were left, and then none is
   clear_answer : (c : ℕ) → Then (clears c) → IsAnswer (clears c) (outcome (clears c) d) (said (clears c) (outcome (clears c) d) ∷ h)
   clear_answer c now =
+      let n = few h d st _ st.orders.count in
+      let l = length-those (is_of c) d.orders.rows in
+      let counted : (outcome (clears c) d).orders ≡ length (those (is_of c) d.orders.rows) = omega arith in
       let b = now.orders.balance c in
       let o = others_of c c d.orders.rows in
       let none = rw (eq-eqb c c refl) at o in
-      omega arith
+      (counted ∙ orders-left c h d.orders.rows st.orders, omega arith)
 
   module _ (i n : ℕ) (o : Order) (e : Event) (takes : Takes i n e) (answered : Outcome) (found : order_in i d ≡ Some o) (enough : n ≤ o.shares) where
     -- shares taken off an order

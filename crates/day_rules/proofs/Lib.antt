@@ -1,5 +1,6 @@
 pub mod Answering
 pub mod Changed
+pub mod Clearing
 pub mod Depths
 pub mod Fills
 pub mod Fits
@@ -9,6 +10,7 @@ pub mod Logs
 pub mod Market
 pub mod Numbers
 pub mod Orders
+mod Placing
 pub mod Refusing
 pub mod Rows
 pub mod Standing

@@ -1,5 +1,5 @@
 -- Every log adds up, as what it stands for does.
-use Rattle.std.proofs.Common.{◌≡◌, ℕ, ◌≤◌, Bool, true, length, eqb, leb, List, [], ◌∷◌, Some, None, Ok, Err, Option, Result, refl, sym, ap, ◌∙◌, ⊎_elim, arith}
+use Rattle.std.proofs.Common.{◌≡◌, ℕ, ◌≤◌, true, eqb, leb, List, [], ◌∷◌, Some, None, Ok, Err, Option, Result, refl, sym, ap, ◌∙◌, ⊎_elim, arith}
 use Rattle.std.proofs.lemmas.Bool.{cases_Bool, eqb-true, leb-false}
 use Rattle.std.proofs.lemmas.Bool.Decides.{nat_tests}
 use Rattle.messages.specs.declared.fault.MessageFault.{MessageFault}
@@ -9,17 +9,18 @@ use Rattle.records.specs.declared.order.Order.{Order}
 use Rattle.records.specs.declared.execution.Execution.{Execution}
 use Rattle.records.specs.declared.symbol_row.SymbolRow.{SymbolRow}
 use Rattle.records.specs.Keys.{order_key, execution_key, row_worth}
-use Rattle.store.specs.Lists.{lookup, those, sum}
+use Rattle.store.specs.Lists.{lookup, sum}
 use Rattle.store.proofs.Ruling.{found-each}
 use Rattle.day_rules.specs.declared.fault.LedgerFault.{LedgerFault}
+use Rattle.day_rules.specs.Calls.{Call, line, question, call_answer, call_left}
 use Rattle.day_rules.specs.Days.{Day}
 use Rattle.day_rules.specs.Events.{event_of}
 use Rattle.day_rules.specs.Laws.{IsLeftOf, IsTraded, IsMarket, shares_of, volume_in, value_in, EveryLog, IsBalanced, IsLeft}
-use Rattle.day_rules.specs.Log.{Log, IsOpening, Logged, line_put, question_put}
+use Rattle.day_rules.specs.Log.{Log, IsOpening, Logged, line_put}
 use Rattle.day_rules.specs.Questions.{market_in}
 use Rattle.day_rules.specs.Rows.{execution_worth, row_of, row_or_new}
 use Rattle.day_rules.specs.Rules.{less_shares, row_in, allowed, permitted, outcome, after, counted, or_refused, or_same, message_answer, message_after, answer, next}
-use Rattle.day_rules.specs.Words.{History, history, last_add, since_add, clear_among, taken_off, left_of_add, fills, times_broken, volume_of, value_of, all_traded, logged_order, logged_execution, logged_row, row_needed, IsLatestAnswer}
+use Rattle.day_rules.specs.Words.{History, history, then_called, last_add, since_add, clear_among, taken_off, left_of_add, fills, times_broken, volume_of, value_of, all_traded, logged_order, logged_execution, logged_row, row_needed, IsAnswered}
 use Rattle.day_rules.proofs.Answering.{event-answer}
 use Rattle.day_rules.proofs.Depths.{resting}
 use Rattle.day_rules.proofs.Fits.{line-fits}
@@ -28,7 +29,7 @@ use Rattle.day_rules.proofs.Market.{all-shares, all-worth}
 use Rattle.day_rules.proofs.Rows.{same-row, parted, row-now}
 use Rattle.day_rules.proofs.Stepping.{passed, few, step}
 use Rattle.day_rules.proofs.Traded.{stored-traded}
-use Rattle.day_rules.proofs.Sums.{sum-those}
+use Rattle.day_rules.proofs.Sums.{sum-those, length-those}
 
 -- What a day stands for adds up.
 
@@ -96,9 +97,9 @@ opened d o =
       rows = rw (o.executions, o.symbols) (record { rising = tt; needed = tt; each = λ s. refl });
     }
 
--- and the latest message got its answer
+-- and each message got its answer
 abbrev Follows : History → Day → Type 0
-Follows h d = Stands h d × IsLatestAnswer h
+Follows h d = Stands h d × IsAnswered h
 
 module _ (line : List ℕ) (log : Log) (d : Day) (before : Follows (history log) d) where
   by_event : (m : Message) → line_message line ≡ Ok m → (p : Result (Unit {0}) LedgerFault) → permitted (event_of m) d ≡ p
@@ -110,7 +111,7 @@ module _ (line : List ℕ) (log : Log) (d : Day) (before : Follows (history log)
       let room = leb-false d.day_limit d.accepted ok.0 in
       let fits = line-fits line m is in
       let now = step (history log) d st room (event_of m) fits ok.1 in
-      rw is (now, event-answer (history log) d st room (event_of m) fits ok.1 now)
+      rw is (now, (event-answer (history log) d st room (event_of m) fits ok.1 now, before.1))
 
   by_line : (r : Result Message MessageFault) → line_message line ≡ r → Follows (history (line_put line (message_answer r d) ∷ log)) (message_after r d)
   by_line (Ok m) is = by_event m is (permitted (event_of m) d) refl
@@ -120,15 +121,13 @@ module _ (line : List ℕ) (log : Log) (d : Day) (before : Follows (history log)
   unfolding answer next
   line_follows = by_line (line_message line) refl
 
+call_follows : (call : Call) (log : Log) (d : Day) → Follows (history log) d → Follows (then_called call (call_answer call d) (history log)) (call_left call d)
+call_follows (line text) log d before = line_follows text log d before
+call_follows (question asked) log d before = before
+
 pub logged_follows : (log : Log) (d : Day) → Logged log d → Follows (history log) d
 logged_follows [] d l = (opened d l, tt)
-logged_follows (line_put line answered ∷ log) d l = rw (l.2, l.3) (line_follows line log l.0 (logged_follows log l.0 l.1))
-logged_follows (question_put q replied ∷ log) d l = logged_follows log d l.0
-
--- a test picks no more than there are
-picked : {X : Type 0} (p : X → Bool) (xs : List X) → length (those p xs) ≤ length xs
-picked p [] = omega arith
-picked p (x ∷ xs) = grind (arith, nat_tests, picked p xs)
+logged_follows (e ∷ log) d l = rw (l.2, l.3) (call_follows e.call log l.0 (logged_follows log l.0 l.1))
 
 pub every_log : EveryLog
 unfolding IsBalanced IsLeft logged_order logged_row
@@ -149,7 +148,7 @@ every_log log d l =
       rows_as_traded = λ s. st.rows.each s ∙ rw (row_by_log (history log) d st s) refl;
       market_adds_up = market (history log) d st;
       accepted_are_counted = st.count;
-      orders_are_counted = λ p. let n = few (history log) d st _ os.count in let l = picked p d.orders.rows in omega arith;
+      orders_are_counted = λ p. let n = few (history log) d st _ os.count in let l = length-those p d.orders.rows in omega arith;
       answers_add_up = all.1;
       executions_have_rows = λ x e is.
           let needed = found-each execution_key (λ f. row_needed f.symbol (history log) ≡ true) x d.executions.rows e st.rows.needed is in

@@ -47,8 +47,8 @@ Enough n None = n ≡ 0
 Enough n (Some o) = (1 ≤ o.shares) × (n ≤ o.shares)
 
 -- the same order with so many shares
-same_but_shares : (o : Order) (m n : ℕ) → o.shares - m ≡ n → less_shares m o ≡ record { id = o.id; symbol = o.symbol; price = o.price; shares = n; side = o.side; display = o.display }
-same_but_shares o m n e = λ i. record { id = o.id; symbol = o.symbol; price = o.price; shares = e i; side = o.side; display = o.display }
+same_but_shares : (o : Order) (m n : ℕ) → o.shares - m ≡ n → less_shares m o ≡ record o { shares = n }
+same_but_shares o m n e = λ i. record o { shares = e i }
 
 -- nothing is taken off
 untouched : (o : Order) → 1 ≤ o.shares → left_if false 0 o ≡ Some o

@@ -60,6 +60,16 @@ module _ {X : Type 0} where
   length-others p [] = omega arith
   length-others p (x ∷ xs) = grind (arith, nat_tests, length-others p xs)
 
+  -- a test picks no more than there are
+  pub length-those : (p : X → Bool) (xs : List X) → length (those p xs) ≤ length xs
+  length-those p [] = omega arith
+  length-those p (x ∷ xs) = grind (arith, nat_tests, length-those p xs)
+
+  -- as many as it picks
+  pub sum-picked : (p : X → Bool) (xs : List X) → length (those p xs) ≡ sum (λ x. cond (p x) 1 0) xs
+  sum-picked p [] = refl
+  sum-picked p (x ∷ xs) = grind (arith, nat_tests, sum-picked p xs)
+
   pub sum-none : (xs : List X) → sum (λ x. 0) xs ≡ 0
   sum-none [] = refl
   sum-none (x ∷ xs) = let r = sum-none xs in omega arith

@@ -1,5 +1,5 @@
 -- A day as a ledger keeps it.
-use Rattle.std.specs.Prelude.{ℕ, List, [], min, max}
+use Rattle.std.specs.Prelude.{ℕ, [], min, max}
 use Rattle.records.specs.declared.order.Order.{Order}
 use Rattle.records.specs.declared.execution.Execution.{Execution}
 use Rattle.records.specs.declared.symbol_row.SymbolRow.{SymbolRow}
@@ -39,10 +39,10 @@ opened o e s limit = opening (empty_store o) (empty_store e) (empty_store s) lim
 
 -- the same day with other orders, executions or rows
 abbrev pub with_orders : Model Order → Day → Day
-with_orders m d = record { orders = m; executions = d.executions; symbols = d.symbols; day_limit = d.day_limit; accepted = d.accepted }
+with_orders m d = record d { orders = m }
 
 abbrev pub with_executions : Model Execution → Day → Day
-with_executions m d = record { orders = d.orders; executions = m; symbols = d.symbols; day_limit = d.day_limit; accepted = d.accepted }
+with_executions m d = record d { executions = m }
 
 abbrev pub with_symbols : Model SymbolRow → Day → Day
-with_symbols m d = record { orders = d.orders; executions = d.executions; symbols = m; day_limit = d.day_limit; accepted = d.accepted }
+with_symbols m d = record d { symbols = m }

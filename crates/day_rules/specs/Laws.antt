@@ -15,7 +15,7 @@ use Rattle.day_rules.specs.Days.{Day}
 use Rattle.day_rules.specs.Log.{Log, Logged}
 use Rattle.day_rules.specs.Questions.{book_in, market_in}
 use Rattle.day_rules.specs.Rules.{order_in, execution_in, row_in, answer, next}
-use Rattle.day_rules.specs.Words.{History, history, last_add, since_add, clear_among, taken_off, shares_added, shares_taken, shares_cleared, times_broken, volume_of, value_of, logged_order, logged_execution, logged_row, all_traded, IsLatestAnswer}
+use Rattle.day_rules.specs.Words.{History, history, last_add, since_add, clear_among, taken_off, shares_added, shares_taken, shares_cleared, times_broken, volume_of, value_of, logged_order, logged_execution, logged_row, all_traded, IsAnswered}
 
 -- What is asked after the log. A missing order or row counts as 0.
 
@@ -103,7 +103,7 @@ OrdersAreCounted d = (p : Order → Bool) → (depth_of (those p d.orders.rows))
 
 -- each accepted message is answered in words of the log up to it
 abbrev pub AnswersAddUp : Log → Type 0
-AnswersAddUp log = IsLatestAnswer (history log)
+AnswersAddUp log = IsAnswered (history log)
 
 -- All this holds of every log since a ledger's opening, and of the day that the ledger keeps after it.
 pub record LogLaws (log : Log) (d : Day) : Type 0 where

@@ -1,3 +1,4 @@
+pub mod Calls
 pub mod Days
 pub mod Due
 pub mod Events
@@ -5,6 +6,8 @@ pub mod Faults
 pub mod Laws
 pub mod Lines
 pub mod Log
+pub mod Places
+pub mod PlacesLemmas
 pub mod Questions
 pub mod Rows
 pub mod Rules

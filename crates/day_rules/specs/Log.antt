@@ -1,16 +1,25 @@
--- A log: all lines and questions put to one ledger since it was opened, refused lines too, each with what it was answered. The latest comes first.
+-- A log: all calls to one ledger since it was opened, lines that it refused too, each with what it was answered. The latest comes first.
 use Rattle.std.specs.Prelude.{◌≡◌, ℕ, ◌≤◌, List, [], ◌∷◌, Result}
+use Rattle.day_rules.specs.declared.answer.Answer.{Answer}
+use Rattle.day_rules.specs.declared.answer.Answer.TheVariants as answers
 use Rattle.day_rules.specs.declared.fault.LedgerFault.{LedgerFault}
 use Rattle.day_rules.specs.declared.outcome.Outcome.{Outcome}
+use Rattle.day_rules.specs.declared.question.Question.{Question}
+use Rattle.day_rules.specs.declared.reply.Reply.{Reply}
+use Rattle.day_rules.specs.Calls.{Call, line, question, call_answer, call_left}
 use Rattle.day_rules.specs.Days.{Day, greatest_limit}
-use Rattle.day_rules.specs.Questions.{Question, ReplyTo, reply}
-use Rattle.day_rules.specs.Rules.{answer, next}
 
-pub data Entry : Type 0 where
-  -- a line, any bytes, and its answer
-  line_put : (line : List ℕ) (answered : Result Outcome LedgerFault) → Entry
-  -- a question, and its reply
-  question_put : (q : Question) (replied : ReplyTo q) → Entry
+pub record Entry : Type 0 where
+  pub call : Call
+  pub answer : Answer
+
+-- a line, and what it was answered
+abbrev pub line_put : List ℕ → Result Outcome LedgerFault → Entry
+line_put text answered = record { call = line text; answer = answers.Line answered }
+
+-- a question, and its reply
+abbrev pub question_put : Question → Reply → Entry
+question_put asked replied = record { call = question asked; answer = answers.Question replied }
 
 abbrev pub Log : Type 0
 Log = List Entry
@@ -23,8 +32,8 @@ pub record IsOpening (d : Day) : Type 0 where
   pub accepted : d.accepted ≡ 0
   pub day_limit : d.day_limit ≤ greatest_limit
 
--- The ledger that keeps the day d was opened, and this log is all that was put to it since: each line got its answer and left the day that follows, each question got its reply.
+-- The ledger that keeps the day d was opened, and this log is all that was done to it since: each call got its answer, and left the day that follows.
 abbrev pub Logged : Log → Day → Type 0
 Logged [] d = IsOpening d
-Logged (line_put line answered ∷ log) d = (before : Day) × Logged log before × (answered ≡ answer line before) × (d ≡ next line before)
-Logged (question_put q replied ∷ log) d = Logged log d × (replied ≡ reply q d)
+Logged (e ∷ log) d =
+    (before : Day) × Logged log before × (e.answer ≡ call_answer e.call before) × (d ≡ call_left e.call before)

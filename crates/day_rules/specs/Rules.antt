@@ -88,7 +88,7 @@ allowed (breaks execution) d = may_break (unbroken (execution_in execution d))
 
 -- the order with fewer shares left, or gone with the last of them
 abbrev pub less_shares : ℕ → Order → Order
-less_shares n o = record { id = o.id; symbol = o.symbol; price = o.price; shares = o.shares - n; side = o.side; display = o.display }
+less_shares n o = record o { shares = o.shares - n }
 
 abbrev pub reduced : ℕ → Order → Day → Day
 reduced n o d = with_orders (cond (o.shares == n) (removing order_key o.id d.orders) (replacing order_key (less_shares n o) d.orders)) d
@@ -120,7 +120,7 @@ fill_of x n o = record { id = x; symbol = o.symbol; price = o.price; shares = n;
 
 -- the execution marked as broken
 abbrev pub marked : Execution → Execution
-marked e = record { id = e.id; symbol = e.symbol; price = e.price; shares = e.shares; broken = true }
+marked e = record e { broken = true }
 
 -- its shares and value taken off the row of its symbol, if there is one
 abbrev pub row_taken : Execution → Option SymbolRow → Model SymbolRow → Model SymbolRow
@@ -187,7 +187,7 @@ abbrev pub permitted : Event → Day → Result (Unit {0}) LedgerFault
 permitted event d = cond (nat_le d.day_limit d.accepted) (Err Closed) (allowed event d)
 
 abbrev pub counted : Day → Day
-counted d = record { orders = d.orders; executions = d.executions; symbols = d.symbols; day_limit = d.day_limit; accepted = d.accepted + 1 }
+counted d = record d { accepted = d.accepted + 1 }
 
 -- an answer if there is no refusal
 abbrev pub or_refused : Result (Unit {0}) LedgerFault → Outcome → Result Outcome LedgerFault

@@ -1,5 +1,5 @@
 -- What is said of a log: its accepted messages, and the orders, executions and breaks among them. These speak of lines and answers alone, and of no ledger.
-use Rattle.std.specs.Prelude.{◌≡◌, ℕ, ◌+◌, ◌-◌, ◌*◌, Bool, true, false, cond, ◌&&◌, ◌||◌, List, [], ◌∷◌, Some, None, Ok, Err, Option, Result, ◌==◌}
+use Rattle.std.specs.Prelude.{◌≡◌, ℕ, ◌+◌, ◌-◌, ◌*◌, Bool, true, false, cond, ◌&&◌, ◌||◌, List, [], ◌∷◌, length, is_some, Some, None, Ok, Err, Option, Result, ◌==◌}
 use Rattle.messages.specs.declared.fault.MessageFault.{MessageFault}
 use Rattle.messages.specs.declared.message.Message.{Message}
 use Rattle.messages.specs.Telling.{line_message}
@@ -7,9 +7,12 @@ use Rattle.records.specs.declared.order.Order.{Order}
 use Rattle.records.specs.declared.execution.Execution.{Execution}
 use Rattle.records.specs.declared.symbol_row.SymbolRow.{SymbolRow}
 use Rattle.store.specs.Lists.{those, sum}
+use Rattle.day_rules.specs.declared.answer.Answer.{Answer}
+use Rattle.day_rules.specs.declared.answer.Answer.TheVariants as answers
 use Rattle.day_rules.specs.declared.outcome.Outcome.{Outcome}
+use Rattle.day_rules.specs.Calls.{Call, line}
 use Rattle.day_rules.specs.Events.{Event, clears, adds, executes, cancels, trades, breaks, event_of}
-use Rattle.day_rules.specs.Log.{Log, line_put, question_put}
+use Rattle.day_rules.specs.Log.{Log}
 use Rattle.day_rules.specs.Rows.{row_of}
 
 -- an accepted message, by what its line says, and its answer
@@ -25,12 +28,15 @@ abbrev pub then_accepted : Result Message MessageFault → Outcome → History �
 then_accepted (Ok m) a h = record { event = event_of m; outcome = a } ∷ h
 then_accepted (Err e) a h = h
 
--- the accepted messages of a log: those answered without a refusal
+-- with what a call has accepted: the message of a line that was answered without a refusal
+abbrev pub then_called : Call → Answer → History → History
+then_called (line text) (answers.Line (Ok a)) h = then_accepted (line_message text) a h
+then_called call answered h = h
+
+-- the accepted messages of a log
 abbrev pub history : Log → History
 history [] = []
-history (line_put line (Ok a) ∷ log) = then_accepted (line_message line) a (history log)
-history (line_put line (Err e) ∷ log) = history log
-history (question_put q r ∷ log) = history log
+history (e ∷ log) = then_called e.call e.answer (history log)
 
 -- Orders.
 
@@ -160,7 +166,7 @@ fill_with x (e ∷ es) = cond (e.id == x) (Some e) (fill_with x es)
 -- marked as broken, if it was broken any times
 abbrev pub marked_if : ℕ → Option Execution → Option Execution
 marked_if times None = None
-marked_if times (Some e) = Some (cond (times == 0) e (record { id = e.id; symbol = e.symbol; price = e.price; shares = e.shares; broken = true }))
+marked_if times (Some e) = Some (cond (times == 0) e (record e { broken = true }))
 
 -- the execution or trade with the Execution ID, as it was accepted, broken if an accepted break carries the ID
 unfoldable pub logged_execution : ℕ → History → Option Execution
@@ -168,7 +174,7 @@ logged_execution x h = marked_if (times_broken x h) (fill_with x (fills h))
 
 -- the order as it was added, with so many shares left
 abbrev pub with_left : ℕ → Order → Order
-with_left n o = record { id = o.id; symbol = o.symbol; price = o.price; shares = n; side = o.side; display = o.display }
+with_left n o = record o { shares = n }
 
 -- what is left of an order after a clear, or after so many shares were taken off
 abbrev pub left_of_add : Option Order → (since : History) → ℕ → Option Order
@@ -178,6 +184,25 @@ left_of_add (Some o) since id = cond (clear_among o.symbol since || taken_off id
 -- the order that rests under the Order ID: as its last accepted add had it, less what was taken off since; none if a clear came since, or no share is left
 unfoldable pub logged_order : ℕ → History → Option Order
 logged_order id h = left_of_add (last_add id h) (since_add id h) id
+
+-- with the Order ID that a message adds, if none before it did
+abbrev pub then_id : Event → History → List ℕ → List ℕ
+then_id (adds o) before ids = cond (is_some (last_add o.id before)) ids (o.id ∷ ids)
+then_id event before ids = ids
+
+-- the Order IDs of all accepted adds, each once
+abbrev pub ids_added : History → List ℕ
+ids_added [] = []
+ids_added (a ∷ h) = then_id a.event h (ids_added h)
+
+-- an order is there, and of the symbol
+abbrev pub is_order_of : ℕ → Option Order → Bool
+is_order_of symbol None = false
+is_order_of symbol (Some o) = o.symbol == symbol
+
+-- how many Order IDs had their last accepted add of the symbol, and have shares left
+abbrev pub orders_left : ℕ → History → ℕ
+orders_left symbol h = length (those (λ id. is_order_of symbol (logged_order id h)) (ids_added h))
 
 -- a message that needs a row for the symbol; an execution's symbol has one from its order's add
 abbrev pub needs_row : ℕ → Event → Bool
@@ -213,16 +238,22 @@ abbrev pub symbol_of : Option Execution → ℕ
 symbol_of None = 0
 symbol_of (Some e) = e.symbol
 
--- an add its own shares; an execution or a cancel what is left of the order; a trade or a break the symbol's volume; a clear all shares of the symbol that were left
+-- the log before its latest message
+abbrev pub before_latest : History → History
+before_latest [] = []
+before_latest (a ∷ h) = h
+
+-- a clear how many orders of the symbol were left before it, and all their shares: with them none of the symbol's are; an add its own shares; an execution or a cancel what is left of the order; a trade or a break the symbol's volume
 abbrev pub IsAnswer : Event → Outcome → History → Type 0
-IsAnswer (clears s) a h = shares_added s h ≡ shares_taken s h + shares_cleared s h
+IsAnswer (clears s) a h =
+    (a.orders ≡ orders_left s (before_latest h)) × (shares_added s h ≡ shares_taken s h + shares_cleared s h)
 IsAnswer (adds o) a h = IsShares a o.shares
 IsAnswer (executes order shares execution) a h = IsWhatIsLeft a (logged_order order h)
 IsAnswer (cancels order shares) a h = IsWhatIsLeft a (logged_order order h)
 IsAnswer (trades e) a h = IsShares a (volume_of e.symbol h)
 IsAnswer (breaks x) a h = IsShares a (volume_of (symbol_of (fill_with x (fills h))) h)
 
--- of the latest accepted message
-abbrev pub IsLatestAnswer : History → Type 0
-IsLatestAnswer [] = Unit {0}
-IsLatestAnswer (a ∷ h) = IsAnswer a.event a.outcome (a ∷ h)
+-- each accepted message has its answer
+abbrev pub IsAnswered : History → Type 0
+IsAnswered [] = Unit {0}
+IsAnswered (a ∷ h) = IsAnswer a.event a.outcome (a ∷ h) × IsAnswered h

@@ -1,5 +1,5 @@
 -- What a log adds up to, of whatever answers and leaves what the rules say.
-use Rattle.std.proofs.Common.{◌≡◌, ℕ, ◌+◌, ◌≤◌, List, ◌∷◌, length, min, take, Ok, Err, Option, Result, OnErr, sym, ap, ◌∙◌, arith}
+use Rattle.std.proofs.Common.{◌≡◌, ℕ, ◌+◌, ◌≤◌, List, ◌∷◌, length, min, take, length-take, Ok, Err, Option, Result, OnErr, sym, ap, ◌∙◌, arith}
 use Rattle.std.proofs.lemmas.List.{take_min, take_all}
 use Rattle.messages.specs.declared.code.Side.{Side}
 use Rattle.messages.specs.declared.code.Side.TheVariants.{Buy, Sell}
@@ -12,11 +12,13 @@ use Rattle.store.specs.Lists.{lookup, those}
 use Rattle.book.specs.Books.{rests_on}
 use Rattle.book.specs.declared.book.Book.{Book}
 use Rattle.book.specs.declared.turnover.Turnover.{Turnover}
+use Rattle.day_rules.specs.declared.answer.Answer.TheVariants as answers
 use Rattle.day_rules.specs.declared.fault.LedgerFault.{LedgerFault}
 use Rattle.day_rules.specs.declared.outcome.Outcome.{Outcome}
 use Rattle.day_rules.specs.Days.{Day}
 use Rattle.day_rules.specs.Laws.{IsBalanced, IsLeft, IsTraded, IsMarket, shares_of, volume_in, value_in, other_side, LogLaws}
 use Rattle.day_rules.specs.Log.{Log, Logged, line_put}
+use Rattle.day_rules.specs.Places.{most_rows}
 use Rattle.day_rules.specs.Questions.{rows_in, book_in, market_in}
 use Rattle.day_rules.specs.Rules.{answer, next, order_in, execution_in, row_in}
 use Rattle.day_rules.specs.Words.{history, logged_order, logged_execution, logged_row}
@@ -24,7 +26,7 @@ use Rattle.day_rules.proofs.Logs.{every_log}
 use Rattle.day_rules.proofs.Refusing.{refused-unchanged}
 
 pub after_line : (line : List ℕ) (log : Log) (d e : Day) (r : Result Outcome LedgerFault) → Logged log d → r ≡ answer line d → e ≡ next line d → LogLaws (line_put line r ∷ log) e
-after_line line log d e r h says leaves = every_log (line_put line r ∷ log) e (d, h, says, leaves)
+after_line line log d e r h says leaves = every_log (line_put line r ∷ log) e (d, h, ap answers.Line says, leaves)
 
 pub order_left : (log : Log) (d : Day) (id : ℕ) (r : Option Order) → Logged log d → r ≡ order_in id d → IsLeft (history log) id (shares_of r)
 order_left log d id r h e = rw e ((every_log log d h).orders_add_up id)
@@ -58,6 +60,12 @@ rows_listed d was is n l =
 pub rows_told : (log : Log) (d : Day) (was is : List SymbolRow) (n symbol : ℕ) → Logged log d → Listed d.symbols.rows was is n → length d.symbols.rows ≤ length was → lookup symbol_key symbol (take n is) ≡ logged_row symbol (history log)
 rows_told log d was is n symbol h l fit =
     ap (lookup symbol_key symbol) (rows_listed d was is n l ∙ take_all (length was) d.symbols.rows fit) ∙ (every_log log d h).rows_as_traded symbol
+
+-- the rows that were listed, if a reply has places for all
+pub listed_rows : (d : Day) (was is rs : List SymbolRow) (n : ℕ) → Listed d.symbols.rows was is n → rs ≡ take most_rows (take n is) → length was ≤ most_rows → rs ≡ rows_in (length was) d
+listed_rows d was is rs n l e fits =
+    let few : length (rows_in (length was) d) ≤ most_rows = omega (arith, length-take (length was) d.symbols.rows) in
+    e ∙ ap (take most_rows) (rows_listed d was is n l) ∙ take_all most_rows (rows_in (length was) d) few
 
 pub market_told : (log : Log) (d : Day) (r : Turnover) → Logged log d → r ≡ market_in d → IsMarket (history log) r
 market_told log d r h e = rw e ((every_log log d h).market_adds_up)

@@ -1,32 +1,29 @@
--- A list of lines put to a ledger one after the other, as many as there are places for answers.
-use Rattle.std.specs.Prelude.{ℕ, List, [], ◌∷◌, Result}
-use Rattle.day_rules.specs.declared.fault.LedgerFault.{LedgerFault}
-use Rattle.day_rules.specs.declared.outcome.Outcome.{Outcome}
+-- Lines, or calls of any sort, one after the other, as many as there are places for answers. What each is answered and what day it leaves are given: `answer` and `next`
+-- of a line, `call_answer` and `call_left` of a call.
+use Rattle.std.specs.Prelude.{List, [], ◌∷◌}
+use Rattle.day_rules.specs.declared.answer.Answer.{Answer}
+use Rattle.day_rules.specs.Calls.{Call}
 use Rattle.day_rules.specs.Days.{Day}
-use Rattle.day_rules.specs.Log.{Log, line_put}
-use Rattle.day_rules.specs.Rules.{answer, next}
+use Rattle.day_rules.specs.Log.{Log}
 
-abbrev pub Answers : Type 0
-Answers = List (Result Outcome LedgerFault)
+-- each answer at the place of its call; the places behind are as before
+abbrev pub answers_on : {C A : Type 0} → (C → Day → A) → (C → Day → Day) → Day → List C → List A → List A
+answers_on answer left d [] places = places
+answers_on answer left d (c ∷ calls) [] = []
+answers_on answer left d (c ∷ calls) (place ∷ places) = answer c d ∷ answers_on answer left (left c d) calls places
 
--- each answer at the place of its line; the places behind are as before
-abbrev pub answers_on : Day → List (List ℕ) → Answers → Answers
-answers_on d [] places = places
-answers_on d (line ∷ lines) [] = []
-answers_on d (line ∷ lines) (place ∷ places) = answer line d ∷ answers_on (next line d) lines places
+-- the day after the calls
+abbrev pub day_on : {C A : Type 0} → (C → Day → Day) → Day → List C → List A → Day
+day_on left d [] places = d
+day_on left d (c ∷ calls) [] = d
+day_on left d (c ∷ calls) (place ∷ places) = day_on left (left c d) calls places
 
--- the day after the lines
-abbrev pub day_on : Day → List (List ℕ) → Answers → Day
-day_on d [] places = d
-day_on d (line ∷ lines) [] = d
-day_on d (line ∷ lines) (place ∷ places) = day_on (next line d) lines places
-
--- the log after what was put before: each line with its answer
-abbrev pub log_on : Log → List (List ℕ) → Answers → Log
+-- the log after what was done before: each call with its answer
+abbrev pub log_on : Log → List Call → List Answer → Log
 log_on log [] answers = log
-log_on log (line ∷ lines) [] = log
-log_on log (line ∷ lines) (a ∷ answers) = log_on (line_put line a ∷ log) lines answers
+log_on log (c ∷ calls) [] = log
+log_on log (c ∷ calls) (a ∷ answers) = log_on (record { call = c; answer = a } ∷ log) calls answers
 
--- the log of a ledger to which only these lines were put since its opening
-abbrev pub log_of : List (List ℕ) → Answers → Log
-log_of lines answers = log_on [] lines answers
+-- the log of a ledger to which only these calls were made since its opening
+abbrev pub log_of : List Call → List Answer → Log
+log_of calls answers = log_on [] calls answers

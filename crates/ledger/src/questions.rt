@@ -1,13 +1,15 @@
 // What a ledger is asked. Questions change nothing; what they answer of shares, volume and value is what the log adds up to.
-ghost use Rattle.std.specs.Prelude.{◌≡◌, ℕ, ◌+◌, ◌≤◌, ◌∷◌, map, length, take};
+ghost use Rattle.std.specs.Prelude.{◌≡◌, ℕ, ◌+◌, ◌≤◌, ◌∷◌, map, length, min, take};
 ghost use Rattle.records.specs.Keys.{symbol_key};
 ghost use Rattle.store.specs.Clients.{Listed};
 ghost use Rattle.store.specs.Lists.{lookup, those};
 ghost use Rattle.book.specs.Books.{rests_on, IsBest};
+ghost use Rattle.day_rules.specs.declared.question.Question.TheVariants as question;
+ghost use Rattle.day_rules.specs.declared.reply.Reply.TheVariants as replies;
 ghost use Rattle.day_rules.specs.Laws.{IsBalanced, IsLeft, IsTraded, IsMarket, shares_of, volume_in, value_in, other_side};
 ghost use Rattle.day_rules.specs.Log.{Log, Logged, question_put};
-ghost use Rattle.day_rules.specs.Questions as question;
-ghost use Rattle.day_rules.specs.Questions.{row_from_in, book_in, market_in};
+ghost use Rattle.day_rules.specs.Places.{most_rows};
+ghost use Rattle.day_rules.specs.Questions.{row_from_in, rows_in, book_in, market_in};
 ghost use Rattle.day_rules.specs.Rules.{order_in, execution_in, row_in};
 ghost use Rattle.day_rules.specs.Words.{history, logged_order, logged_execution, logged_row};
 
@@ -15,6 +17,7 @@ use crate::ledger::Ledger;
 use book::book::Book;
 use book::queries::{book, market};
 use book::turnover::Turnover;
+use day_rules::first_rows::FirstRows;
 use messages::code::Side;
 use records::execution::Execution;
 use records::order::Order;
@@ -27,7 +30,7 @@ impl<O: Store<Order>, E: Store<Execution>, S: Store<SymbolRow>> Ledger<O, E, S> 
     #[tactic(auto, using(crate::proofs::Adding::order_left, crate::proofs::Adding::order_told))]
     pub fn order(&self, id: u64) -> Option<Order>
         ensures says { result ≡ order_in id self.now }
-        ensures logged { (log : Log) → Logged log self.now → Logged (question_put (question.order id) result ∷ log) self.now }
+        ensures logged { (log : Log) → Logged log self.now → Logged (question_put (question.Order id) (replies.Order result) ∷ log) self.now }
         ensures adds_up { (log : Log) → Logged log self.now → IsLeft (history log) id (shares_of result) }
         ensures by_log { (log : Log) → Logged log self.now → result ≡ logged_order id (history log) }
     {
@@ -38,7 +41,7 @@ impl<O: Store<Order>, E: Store<Execution>, S: Store<SymbolRow>> Ledger<O, E, S> 
     #[tactic(auto, using(crate::proofs::Adding::execution_told))]
     pub fn execution(&self, id: u64) -> Option<Execution>
         ensures says { result ≡ execution_in id self.now }
-        ensures logged { (log : Log) → Logged log self.now → Logged (question_put (question.execution id) result ∷ log) self.now }
+        ensures logged { (log : Log) → Logged log self.now → Logged (question_put (question.Execution id) (replies.Execution result) ∷ log) self.now }
         ensures by_log { (log : Log) → Logged log self.now → result ≡ logged_execution id (history log) }
     {
         self.executions.find(id)
@@ -48,7 +51,7 @@ impl<O: Store<Order>, E: Store<Execution>, S: Store<SymbolRow>> Ledger<O, E, S> 
     #[tactic(auto, using(crate::proofs::Adding::row_traded, crate::proofs::Adding::row_told))]
     pub fn row(&self, symbol: u64) -> Option<SymbolRow>
         ensures says { result ≡ row_in symbol self.now }
-        ensures logged { (log : Log) → Logged log self.now → Logged (question_put (question.row symbol) result ∷ log) self.now }
+        ensures logged { (log : Log) → Logged log self.now → Logged (question_put (question.Row symbol) (replies.Row result) ∷ log) self.now }
         ensures adds_up { (log : Log) → Logged log self.now → IsTraded (history log) symbol (volume_in result) (value_in result) }
         ensures by_log { (log : Log) → Logged log self.now → result ≡ logged_row symbol (history log) }
     {
@@ -58,7 +61,7 @@ impl<O: Store<Order>, E: Store<Execution>, S: Store<SymbolRow>> Ledger<O, E, S> 
     // The first row from a symbol's number on.
     pub fn row_from(&self, symbol: u64) -> Option<SymbolRow>
         ensures says { result ≡ row_from_in symbol self.now }
-        ensures logged { (log : Log) → Logged log self.now → Logged (question_put (question.row_from symbol) result ∷ log) self.now }
+        ensures logged { (log : Log) → Logged log self.now → Logged (question_put (question.RowFrom symbol) (replies.Row result) ∷ log) self.now }
     {
         self.symbols.from(symbol)
     }
@@ -67,10 +70,28 @@ impl<O: Store<Order>, E: Store<Execution>, S: Store<SymbolRow>> Ledger<O, E, S> 
     #[tactic(auto, using(crate::proofs::Adding::rows_listed, crate::proofs::Adding::rows_told))]
     pub fn rows(&self, places: &mut [SymbolRow]) -> usize
         ensures says { Listed self.now.symbols.rows places.old places.new result }
-        ensures logged { (log : Log) → Logged log self.now → Logged (question_put (question.rows (length places.old)) (take result places.new) ∷ log) self.now }
+        ensures logged { (log : Log) → Logged log self.now → Logged (question_put (question.Rows (length places.old)) (replies.Rows (take result places.new)) ∷ log) self.now }
         ensures by_log { (log : Log) → Logged log self.now → length self.now.symbols.rows ≤ length places.old → (symbol : ℕ) → lookup symbol_key symbol (take result places.new) ≡ logged_row symbol (history log) }
     {
         list_into(&self.symbols, places)
+    }
+
+    /// The first so many rows by rising symbol number, or all where they are fewer, and 64 at most.
+    pub fn first_rows(&self, most: u64) -> FirstRows
+        ensures says { result ≡ rows_in (min most most_rows) self.now }
+        ensures logged { (log : Log) → Logged log self.now → Logged (question_put (question.Rows (min most most_rows)) (replies.Rows result) ∷ log) self.now }
+    {
+        let mut places = [SymbolRow::BLANK; FirstRows::MOST];
+        let most = most.min(FirstRows::MOST as u64);
+        self.rows_by(&mut places[..most as usize])
+    }
+
+    // The rows that are listed into places, of which there are no more than a reply has.
+    fn rows_by(&self, places: &mut [SymbolRow]) -> FirstRows
+        ensures { length places.old ≤ most_rows → result ≡ rows_in (length places.old) self.now }
+    {
+        let count = self.rows(places);
+        FirstRows::of(&places[..count])
     }
 
     // What rests of a symbol on a side. With what rests on the other side, its shares are what the log's add up to.
@@ -79,7 +100,7 @@ impl<O: Store<Order>, E: Store<Execution>, S: Store<SymbolRow>> Ledger<O, E, S> 
         ensures says { result ≡ book_in symbol side self.now }
         ensures best { IsBest side (map (λ o. o.price) (those (rests_on symbol side) self.now.orders.rows)) result.best }
         ensures counts { (log : Log) → Logged log self.now → result.depth.orders.number ≡ length (those (rests_on symbol side) self.now.orders.rows) }
-        ensures logged { (log : Log) → Logged log self.now → Logged (question_put (question.book symbol side) result ∷ log) self.now }
+        ensures logged { (log : Log) → Logged log self.now → Logged (question_put (question.Book symbol side) (replies.Book result) ∷ log) self.now }
         ensures balance { (log : Log) → Logged log self.now → IsBalanced (history log) symbol (result.depth.shares.number + (book_in symbol (other_side side) self.now).depth.shares.number) }
     {
         book(&self.orders, symbol, side)
@@ -89,7 +110,7 @@ impl<O: Store<Order>, E: Store<Execution>, S: Store<SymbolRow>> Ledger<O, E, S> 
     #[tactic(auto, using(crate::proofs::Adding::market_told))]
     pub fn market(&self) -> Turnover
         ensures says { result ≡ market_in self.now }
-        ensures logged { (log : Log) → Logged log self.now → Logged (question_put question.market result ∷ log) self.now }
+        ensures logged { (log : Log) → Logged log self.now → Logged (question_put question.Market (replies.Market result) ∷ log) self.now }
         ensures by_log { (log : Log) → Logged log self.now → IsMarket (history log) result }
     {
         market(&self.symbols)
@@ -99,7 +120,7 @@ impl<O: Store<Order>, E: Store<Execution>, S: Store<SymbolRow>> Ledger<O, E, S> 
     #[tactic(auto, using(crate::proofs::Adding::accepted_told))]
     pub fn accepted(&self) -> u64
         ensures says { result ≡ self.now.accepted }
-        ensures logged { (log : Log) → Logged log self.now → Logged (question_put question.accepted result ∷ log) self.now }
+        ensures logged { (log : Log) → Logged log self.now → Logged (question_put question.Accepted (replies.Accepted result) ∷ log) self.now }
         ensures by_log { (log : Log) → Logged log self.now → result ≡ length (history log) }
     {
         self.accepted

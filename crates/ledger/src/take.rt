@@ -1,12 +1,13 @@
 // The message call.
 ghost use Rattle.std.specs.Prelude.{◌≡◌, ℕ, ◌↔◌, List, ◌∷◌, OnErr};
+ghost use Rattle.messages.specs.Telling.{line_message};
 ghost use Rattle.day_rules.specs.Due.{LineDue, Refuses};
 ghost use Rattle.day_rules.specs.Events.{event_of};
 ghost use Rattle.day_rules.specs.Faults.{Carried};
 ghost use Rattle.day_rules.specs.Laws.{SharesBalance, OrdersAddUp, TurnoverAddsUp, AnswersAddUp, NoneBrokenTwice};
 ghost use Rattle.day_rules.specs.Log.{Log, Logged, line_put};
 ghost use Rattle.day_rules.specs.Rules.{event_answer, event_after, answer, next};
-ghost use Rattle.ledger.specs.Steps.{answered, followed};
+ghost use Rattle.ledger.specs.Steps.{answered, followed, or_unread};
 
 use crate::ledger::Ledger;
 use crate::making::{order_of, trade_of};
@@ -43,11 +44,7 @@ impl<O: Store<Order>, E: Store<Execution>, S: Store<SymbolRow>> Ledger<O, E, S> 
         ensures says { result ≡ answer line.now self.old }
         ensures leaves { self.new ≡ next line.now self.old }
     {
-        // The message stays where it was read: it is large, and would be copied once more.
-        match &read(line) {
-            Ok(message) => self.take_message(message),
-            Err(fault) => Err((*fault).into()),
-        }
+        self.take_message(&message_of(line)?)
     }
 
     // The day limit comes first, and accepted messages are counted.
@@ -81,4 +78,12 @@ impl<O: Store<Order>, E: Store<Execution>, S: Store<SymbolRow>> Ledger<O, E, S> 
             Message::TradeBreak(broken) => self.break_execution(broken.execution),
         }
     }
+}
+
+// The message of a line.
+#[inline(always)]
+fn message_of(line: &[u8]) -> Result<Message, LedgerFault>
+    ensures { result ≡ or_unread (line_message line.now) }
+{
+    Ok(read(line)?)
 }

@@ -1,1 +1,3 @@
+mod Lawful
+mod Listing
 mod Saying

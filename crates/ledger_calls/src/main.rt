@@ -4,8 +4,6 @@
 mod asking;
 mod opening;
 mod parse;
-mod question;
-mod reply;
 mod running;
 mod shown;
 #[cfg(test)]

@@ -5,12 +5,13 @@ ghost use Rattle.capture.specs.Held.{held};
 ghost use Rattle.capture.specs.Lines.{lines_of};
 ghost use Rattle.day_forms.specs.Texts.{numbered_line};
 ghost use Rattle.ledger_calls.specs.Replies.{said_to, day_left};
-ghost use Rattle.ledger_calls.specs.Runs.{said_on, day_opened, opened_text, run_text};
+ghost use Rattle.ledger_calls.specs.Runs.{said_on, day_opened, opened_text, run_text, HasLaws};
 ghost use Rattle.ledger_calls.specs.Texts.{said_text};
 
 use crate::asking::say;
 use crate::opening::Opening;
 use crate::parse::opening;
+use crate::shown::Said;
 use capture::buffer::LineBuffer;
 use capture::count::LineCount;
 use capture::input::next_line;
@@ -25,8 +26,16 @@ use std::io::{BufRead, ErrorKind, Write};
 use std::{fmt, io};
 use store::store::Store;
 
-// Answers every line of the input on the output. Where the first opens no ledger, nothing more is answered.
+/// Answers every line of the input on the output. Where the first opens no ledger, nothing more is answered. Whatever is read, the calls that it makes and the answers to
+/// them are a log that adds up. More lines than can be counted, 2^64 - 1 behind the first, are a file too large.
 pub fn run<R: BufRead, W: Write>(heap: Global, input: &mut R, output: &mut W) -> io::Result<()>
+    ensures prints { OnOk result (IfSome (R.remaining input.old) (λ bytes. Appends (W.contents output.old) (W.contents output.new) (run_text (lines_of bytes)))) }
+    ensures laws { IfSome (R.remaining input.old) (λ bytes. HasLaws (lines_of bytes)) }
+{
+    answer_all(heap, input, output)
+}
+
+fn answer_all<R: BufRead, W: Write>(heap: Global, input: &mut R, output: &mut W) -> io::Result<()>
     ensures { OnOk result (IfSome (R.remaining input.old) (λ bytes. Appends (W.contents output.old) (W.contents output.new) (run_text (lines_of bytes)))) }
 {
     let mut line = LineBuffer::new();
@@ -100,7 +109,7 @@ pub(crate) fn answer_lines<
         }
         answer_line(ledger, count.next(), &line, output)?;
     }
-    Err(ErrorKind::TimedOut.into())
+    Err(ErrorKind::FileTooLarge.into())
 }
 
 // Says what the ledger says to a line, behind the line's number.
@@ -114,7 +123,7 @@ fn answer_line<W: Write, O: Store<Order>, E: Store<Execution>, S: Store<SymbolRo
     ensures says { OnOk result (Appends (W.contents output.old) (W.contents output.new) (numbered_line number (said_text (said_to (held line.now) ledger.old)))) }
 {
     let said = say(ledger, line.line());
-    show(output, number, &said)
+    show(output, number, &Said(&said))
 }
 
 // Prints what is said to a line, behind the line's number.

@@ -1,23 +1,46 @@
 // How what is said to a line is shown.
 ghost use Rattle.std.specs.Prelude.{Some};
-ghost use Rattle.ledger_calls.specs.Texts.{reply_text, said_text, opening_text};
+ghost use Rattle.ledger_calls.specs.Texts.{reply_text, rows_text, said_text, opening_text};
 
 use crate::opening::Opening;
-use crate::reply::{Reply, Said};
 use day_forms::answer::Answered;
 use day_forms::record::{ExecutionForm, OrderForm, RowForm};
 use day_forms::total::{BookForm, TurnoverForm};
+use day_rules::answer::Answer;
+use day_rules::reply::Reply;
+use records::symbol_row::SymbolRow;
 use std::fmt;
 
-impl fmt::Display for Reply {
-    ghost output = { λ r. Some (reply_text r) };
+/// What is said to a line: the answer to its call, or that it asks nothing known.
+#[derive(Drop)]
+pub struct Said<'a>(pub &'a Option<Answer>);
+
+impl fmt::Display for Said<'_> {
+    ghost output = { λ s. Some (said_text s.0.now) };
 
     fn fmt<W: fmt::Write>(&self, f: &mut fmt::Formatter<W>) -> fmt::Result {
-        match self {
+        match self.0 {
+            Some(Answer::Line(answer)) => write!(f, "{}", Answered(answer)),
+            Some(Answer::Question(reply)) => write!(f, "{}", Replied(reply)),
+            None => f.write_str("(unknown question)"),
+        }
+    }
+}
+
+/// A reply, none where nothing was found.
+#[derive(Drop)]
+pub struct Replied<'a>(pub &'a Reply);
+
+impl fmt::Display for Replied<'_> {
+    ghost output = { λ r. Some (reply_text r.0.now) };
+
+    fn fmt<W: fmt::Write>(&self, f: &mut fmt::Formatter<W>) -> fmt::Result {
+        match self.0 {
             Reply::Order(Some(order)) => write!(f, "{}", OrderForm(order)),
             Reply::Execution(Some(execution)) => write!(f, "{}", ExecutionForm(execution)),
             Reply::Row(Some(row)) => write!(f, "{}", RowForm(row)),
             Reply::Order(None) | Reply::Execution(None) | Reply::Row(None) => f.write_str("none"),
+            Reply::Rows(rows) => write!(f, "(rows{})", RowForms(rows.rows())),
             Reply::Book(book) => write!(f, "{}", BookForm(book)),
             Reply::Market(turnover) => write!(f, "{}", TurnoverForm(turnover)),
             Reply::Accepted(count) => write!(f, "(accepted {count})"),
@@ -25,15 +48,18 @@ impl fmt::Display for Reply {
     }
 }
 
-impl fmt::Display for Said {
-    ghost output = { λ s. Some (said_text s) };
+// Rows, each behind a space.
+#[derive(Drop)]
+struct RowForms<'a>(&'a [SymbolRow]);
+
+impl fmt::Display for RowForms<'_> {
+    ghost output = { λ r. Some (rows_text r.0.now) };
 
     fn fmt<W: fmt::Write>(&self, f: &mut fmt::Formatter<W>) -> fmt::Result {
-        match self {
-            Said::Answered(answer) => write!(f, "{}", Answered(answer)),
-            Said::Replied(reply) => write!(f, "{reply}"),
-            Said::Unknown => f.write_str("(unknown question)"),
+        for row in self.0 {
+            write!(f, " {}", RowForm(row))?;
         }
+        Ok(())
     }
 }
 

@@ -14,6 +14,9 @@ returns-in-row c = rw (text_from_reads c.args.word.now (codes "row") (omega arit
 pub returns-in-from : goal.returns-in-from
 returns-in-from c = rw (text_from_reads c.args.word.now (codes "from") (omega arith) (search rules)) refl
 
+pub returns-in-rows : goal.returns-in-rows
+returns-in-rows c = rw (text_from_reads c.args.word.now (codes "rows") (omega arith) (search rules)) refl
+
 pub returns-in-book : goal.returns-in-book
 returns-in-book c = rw (text_from_reads c.args.word.now (codes "book") (omega arith) (search rules)) refl
 

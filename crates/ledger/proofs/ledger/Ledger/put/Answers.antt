@@ -1,4 +1,5 @@
-use Rattle.std.proofs.Common.{◌∷◌}
+use Rattle.std.proofs.Common.{◌∷◌, ap}
+use Rattle.day_rules.specs.declared.answer.Answer.TheVariants as answers
 use Rattle.day_rules.specs.Laws.{LogLaws}
 use Rattle.day_rules.specs.Log.{Log, Logged, line_put}
 use Rattle.day_rules.proofs.Judged.{refused-when-due}
@@ -14,7 +15,7 @@ returns g c =
       leaves = took.leaves;
       due = λ n d. rw took.says (refused-when-due c.args.line.now c.args.self.now n d);
       refused = refusal_keeps c.args.line.now c.args.self.now c.take_line.new.self c.take_line.result took.says took.leaves;
-      logged = λ log h. (c.args.self.now, h, took.says, took.leaves);
+      logged = λ log h. (c.args.self.now, h, ap answers.Line took.says, took.leaves);
       shares_balance = λ log h. (laws log h).shares_balance;
       orders_add_up = λ log h. (laws log h).orders_add_up;
       turnover_adds_up = λ log h. (laws log h).turnover_adds_up;
