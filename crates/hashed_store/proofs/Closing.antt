@@ -9,7 +9,8 @@ use Rattle.hashed_store.proofs.Held.{record_of, taken_out, put_in}
 use Rattle.hashed_store.proofs.Meeting.{met-moved, met-closed, none_over}
 use Rattle.hashed_store.proofs.Straying.{straying, straying-falls}
 
-module _ {X : Type 0} (home : ℕ → ℕ → ℕ) (inside : (n k : ℕ) → 0 < n → home n k < n) (key : X → ℕ) where
+module _ {X : Type 0} (home : ℕ → ℕ → ℕ) (inside : (n k : ℕ) → 0 < n → home n k < n)
+    (key : X → ℕ) where
   -- the slots after the record at i has moved into the hole h
   pub moved : List (Option X) → ℕ → ℕ → List (Option X)
   moved ss i h = set (set ss i None) h (slot_at ss i)
@@ -25,7 +26,8 @@ module _ {X : Type 0} (home : ℕ → ℕ → ℕ) (inside : (n k : ℕ) → 0 <
     pub rows : sorted key (held is) ≡ sorted key (held ss)
     pub count : length (held is) ≡ length (held ss)
 
-  pub moving-keeps : (ss : List (Option X)) (reach h i : ℕ) → h < length ss → OverHole home key ss h i → Holed home key ss reach h
+  pub moving-keeps : (ss : List (Option X)) (reach h i : ℕ) → h < length ss
+      → OverHole home key ss h i → Holed home key ss reach h
       → Step ss (set (set ss i None) h (slot_at ss i)) reach i
   moving-keeps ss reach h i lh o was =
       let f = record_of (λ r. offset (length ss) h i ≤ strayed home key (length ss) i r) (slot_at ss i) o.over in
@@ -47,7 +49,8 @@ module _ {X : Type 0} (home : ℕ → ℕ → ℕ) (inside : (n k : ℕ) → 0 <
         count = put.greater ∙ sym out.fewer;
       })
 
-  pub closed-ends : (ss : List (Option X)) (reach h u : ℕ) → h < length ss → NoneOver home key ss h reach u → Holed home key ss reach h → Kept home key ss reach
+  pub closed-ends : (ss : List (Option X)) (reach h u : ℕ) → h < length ss
+      → NoneOver home key ss h reach u → Holed home key ss reach h → Kept home key ss reach
   closed-ends ss reach h u lh o was =
       let some : 0 < length ss = omega arith in
       record {

@@ -1,4 +1,5 @@
--- How far all records have strayed together: a record that moves back into a hole makes it less, so that moving ends.
+-- How far all records have strayed together: a record that moves back into a hole makes it less,
+-- so that moving ends.
 use Rattle.std.proofs.Common.{◌≡◌, ℕ, zero, suc, ◌+◌, ◌<◌, ◌≤◌, List, [], ◌∷◌, length, set, add-zero, add-suc, suc-add, zero-add, arith, length-set, Some, None, Option}
 use Rattle.hashed_store.specs.Rounds.{offset}
 use Rattle.hashed_store.specs.Slots.{slot_at, strayed}
@@ -14,7 +15,8 @@ module _ {X : Type 0} (home : ℕ → ℕ → ℕ) (key : X → ℕ) (n : ℕ) w
   straying b [] = 0
   straying b (s ∷ ss) = strayed_in b s + straying (suc b) ss
 
-  straying-set : (b : ℕ) (ss : List (Option X)) (j : ℕ) (s : Option X) → j < length ss → straying b (set ss j s) + strayed_in (b + j) (slot_at ss j) ≡ straying b ss + strayed_in (b + j) s
+  straying-set : (b : ℕ) (ss : List (Option X)) (j : ℕ) (s : Option X) → j < length ss
+      → straying b (set ss j s) + strayed_in (b + j) (slot_at ss j) ≡ straying b ss + strayed_in (b + j) s
   unfolding straying
   straying-set b [] j s h = absurd (omega arith)
   straying-set b (q ∷ ss) zero s h = simp add-zero (omega arith)
@@ -23,7 +25,9 @@ module _ {X : Type 0} (home : ℕ → ℕ → ℕ) (key : X → ℕ) (n : ℕ) w
       let e = rw suc-add at (straying-set (suc b) ss j s l) in
       simp add-suc (omega arith)
 
-  pub straying-falls : (inside : (n k : ℕ) → 0 < n → home n k < n) → (ss : List (Option X)) (h j : ℕ) (r : X) → length ss ≡ n → h < n → j < n → (j ≡ h → ⊥) → slot_at ss j ≡ Some r
+  pub straying-falls : (inside : (n k : ℕ) → 0 < n → home n k < n)
+      → (ss : List (Option X)) (h j : ℕ) (r : X) → length ss ≡ n → h < n → j < n → (j ≡ h → ⊥)
+      → slot_at ss j ≡ Some r
       → offset n h j ≤ strayed home key n j r → straying 0 (set (set ss j None) h (Some r)) < straying 0 ss
   unfolding strayed_in
   straying-falls inside ss h j r size lh lj apart from over =

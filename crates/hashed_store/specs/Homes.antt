@@ -7,8 +7,9 @@ use Rattle.hashed_store.specs.Mixing.{mixed}
 abbrev pub modulo : ℕ → ℕ → ℕ
 modulo n k = k % n
 
--- The point of the key k, of 2^64. 128 keys in a row come near one another, a slot or less apart where there are n slots, so that the records of rising IDs share pages of
--- memory; each such row comes elsewhere.
+-- The point of the key k, of 2^64. 128 keys in a row come near one another, a slot or less apart
+-- where there are n slots, so that the records of rising IDs share pages of memory; each such row
+-- comes elsewhere.
 unfoldable pub point : ℕ → ℕ → ℕ
 point n k = (mixed (k / 128) + k % 128 * 2 ^ min (count_leading_zeros 64 n) 63) % 2 ^ 64
 

@@ -14,7 +14,8 @@ point_below n k = omega arith
 -- a share of n slots is one of them
 share_below : (m n : ℕ) → m < 2 ^ 64 → 0 < n → m * n / 2 ^ 64 < n
 share_below m n small some =
-    (div-lt_iff_lt-mul (omega arith)).1 (let h = mul-lt-mul_of_pos_right {k = n} small some in omega arith)
+    (div-lt_iff_lt-mul (omega arith)).1 (let h =
+    mul-lt-mul_of_pos_right {k = n} small some in omega arith)
 
 pub spread_inside : (n k : ℕ) → 0 < n → spread n k < n
 unfolding spread

@@ -63,7 +63,8 @@ prime_among-first zero n some prime = absurd (omega arith)
 prime_among-first (suc count) n some prime = rw prime refl
 
 -- or it is not
-pub prime_among-later : (count n : ℕ) → 0 < count → is_prime n ≡ false → prime_among (count - 1) (n + 1) ≡ prime_among count n
+pub prime_among-later : (count n : ℕ) → 0 < count → is_prime n ≡ false
+    → prime_among (count - 1) (n + 1) ≡ prime_among count n
 unfolding prime_among
 prime_among-later zero n some prime = absurd (omega arith)
 prime_among-later (suc count) n some prime =

@@ -35,7 +35,7 @@ pub fn replay<R: BufRead, W: Write>(
 ) -> io::Result<()>
     ensures { OnOk result (IfSome (R.remaining input.old) (λ bytes.
         Appends (W.contents output.old) (W.contents output.new)
-            (replay_text options.now bytes))) }
+        (replay_text options.now bytes))) }
 {
     let mut places = vec![in heap; SymbolRow::BLANK; options.room.symbols as usize]?;
     let places = places.as_mut_slice();
@@ -55,7 +55,7 @@ fn over_rows<R: BufRead, W: Write>(
 ) -> io::Result<()>
     ensures { OnOk result (IfSome (R.remaining input.old) (λ bytes.
         Appends (W.contents output.old) (W.contents output.new)
-            (room_printed (length places.old) options.now bytes))) }
+        (room_printed (length places.old) options.now bytes))) }
 {
     let room = &options.room;
     let mut orders = vec![in heap; Order::BLANK; room.orders as usize]?;
@@ -83,7 +83,7 @@ fn over_slots<H: Home, R: BufRead, W: Write>(
 ) -> io::Result<()>
     ensures { OnOk result (IfSome (R.remaining input.old) (λ bytes.
         Appends (W.contents output.old) (W.contents output.new)
-            (room_printed (length places.old) options.now bytes))) }
+        (room_printed (length places.old) options.now bytes))) }
 {
     let room = &options.room;
     let order_slots = slots(room.orders) as usize;
@@ -141,9 +141,9 @@ fn over<
 ) -> io::Result<()>
     ensures { OnOk result (IfSome (R.remaining input.old) (λ bytes.
         let day = opening (O.Store.model stores.0) (E.Store.model stores.1)
-            (S.Store.model stores.2) options.now.room.day_limit in
+        (S.Store.model stores.2) options.now.room.day_limit in
         Appends (W.contents output.old) (W.contents output.new)
-            (printed (length places.old) options.now.shown day bytes))) }
+        (printed (length places.old) options.now.shown day bytes))) }
 {
     let (orders, executions, symbols) = stores;
     if options.stores.front {
@@ -181,9 +181,9 @@ fn keep<
 ) -> io::Result<()>
     ensures { OnOk result (IfSome (R.remaining input.old) (λ bytes.
         let day = opening (O.Store.model stores.0) (E.Store.model stores.1)
-            (S.Store.model stores.2) options.now.room.day_limit in
+        (S.Store.model stores.2) options.now.room.day_limit in
         Appends (W.contents output.old) (W.contents output.new)
-            (printed (length places.old) options.now.shown day bytes))) }
+        (printed (length places.old) options.now.shown day bytes))) }
 {
     let (orders, executions, symbols) = stores;
     let mut ledger = Ledger::open(orders, executions, symbols, options.room.day_limit);

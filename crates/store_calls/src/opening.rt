@@ -34,9 +34,9 @@ pub(crate) fn open<R: BufRead, W: Write>(
 ) -> io::Result<Option<Opening>>
     ensures { IfOk result (λ next.
         Says (R.remaining input.old) (R.remaining input.new)
-            (W.contents output.old) (W.contents output.new)
-            (opening_text (Some opening) count.old.lines)
-            (opening_text next count.new.lines)) }
+        (W.contents output.old) (W.contents output.new)
+        (opening_text (Some opening) count.old.lines)
+        (opening_text next count.new.lines)) }
 {
     // An arm each: a store borrows its memory, which is of another type in each.
     match opening.kind {
@@ -60,9 +60,9 @@ fn open_hashed<H: Home, R: BufRead, W: Write>(
 ) -> io::Result<Option<Opening>>
     ensures { IfOk result (λ next.
         Says (R.remaining input.old) (R.remaining input.new)
-            (W.contents output.old) (W.contents output.new)
-            (opening_text (Some opening) count.old.lines)
-            (opening_text next count.new.lines)) }
+        (W.contents output.old) (W.contents output.new)
+        (opening_text (Some opening) count.old.lines)
+        (opening_text next count.new.lines)) }
 {
     // Not 0: the store empties its memory, whatever that holds.
     let mut tags = vec![in heap; 255u8; opening.limit as usize]?;
@@ -83,9 +83,9 @@ fn open_over<R: BufRead, W: Write, S: Store<Order> + Drop>(
 ) -> io::Result<Option<Opening>>
     ensures { IfOk result (λ next.
         Says (R.remaining input.old) (R.remaining input.new)
-            (W.contents output.old) (W.contents output.new)
-            (begun_text count.old.lines (stored_over front (emptied (S.Store.model below))))
-            (opening_text next count.new.lines)) }
+        (W.contents output.old) (W.contents output.new)
+        (begun_text count.old.lines (stored_over front (emptied (S.Store.model below))))
+        (opening_text next count.new.lines)) }
 {
     below.empty();
     show(Reply::Opened(below.limit()), count, output)?;
