@@ -79,7 +79,8 @@ impl<O: Store<Order>, E: Store<Execution>, S: Store<SymbolRow>> Ledger<O, E, S> 
     /// The first so many rows by rising symbol number, or all where they are fewer, and 64 at most.
     pub fn first_rows(&self, most: u64) -> FirstRows
         ensures says { result ≡ rows_in (min most most_rows) self.now }
-        ensures logged { (log : Log) → Logged log self.now → Logged (question_put (question.Rows (min most most_rows)) (replies.Rows result) ∷ log) self.now }
+        ensures logged { (log : Log) → Logged log self.now
+            → Logged (question_put (question.Rows (min most most_rows)) (replies.Rows result) ∷ log) self.now }
     {
         let mut places = [SymbolRow::BLANK; FirstRows::MOST];
         let most = most.min(FirstRows::MOST as u64);
@@ -88,7 +89,8 @@ impl<O: Store<Order>, E: Store<Execution>, S: Store<SymbolRow>> Ledger<O, E, S> 
 
     // The rows that are listed into places, of which there are no more than a reply has.
     fn rows_by(&self, places: &mut [SymbolRow]) -> FirstRows
-        ensures { length places.old ≤ most_rows → result ≡ rows_in (length places.old) self.now }
+        ensures { length places.old ≤ most_rows
+            → result ≡ rows_in (length places.old) self.now }
     {
         let count = self.rows(places);
         FirstRows::of(&places[..count])

@@ -45,9 +45,11 @@ fn sizes(rest: &[u8]) -> Option<Opening>
     })
 }
 
-// The call that a line makes: a question, or it is put to the ledger; none where what stands behind a question mark is no question.
+/// The call that a line makes: a question, or it is put to the ledger; none where what stands behind
+/// a question mark is no question.
 pub fn call(line: &[u8]) -> Option<Call>
-    ensures { MatchOption result (call_made line.now ≡ None) (λ call. call_made line.now ≡ Some (call_of call)) }
+    ensures { MatchOption result (call_made line.now ≡ None)
+        (λ call. call_made line.now ≡ Some (call_of call)) }
 {
     match asked(line) {
         Some(text) => Some(Call::Question(question(text)?)),
