@@ -1,4 +1,4 @@
-// From the first line to the last.
+//! From the first line to the last.
 ghost use Rattle.std.specs.Prelude.{◌≡◌, IfSome, OnOk};
 ghost use Rattle.std.specs.Io.KnownBytes.{Appends};
 ghost use Rattle.capture.specs.Held.{held};
