@@ -1,4 +1,5 @@
--- A log: all calls to one ledger since it was opened, lines that it refused too, each with what it was answered. The latest comes first.
+-- A log: all calls to one ledger since it was opened, lines that it refused too, each with what it
+-- was answered. The latest comes first.
 use Rattle.std.specs.Prelude.{◌≡◌, ℕ, ◌≤◌, List, [], ◌∷◌, Result}
 use Rattle.day_rules.specs.declared.answer.Answer.{Answer}
 use Rattle.day_rules.specs.declared.answer.Answer.TheVariants as answers
@@ -32,8 +33,11 @@ pub record IsOpening (d : Day) : Type 0 where
   pub accepted : d.accepted ≡ 0
   pub day_limit : d.day_limit ≤ greatest_limit
 
--- The ledger that keeps the day d was opened, and this log is all that was done to it since: each call got its answer, and left the day that follows.
+-- The ledger that keeps the day d was opened, and this log is all that was done to it since: each
+-- call got its answer, and left the day that follows.
 abbrev pub Logged : Log → Day → Type 0
 Logged [] d = IsOpening d
 Logged (e ∷ log) d =
-    (before : Day) × Logged log before × (e.answer ≡ call_answer e.call before) × (d ≡ call_left e.call before)
+    (before : Day) × Logged log before
+    × (e.answer ≡ call_answer e.call before)
+    × (d ≡ call_left e.call before)

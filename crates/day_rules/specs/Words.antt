@@ -243,10 +243,13 @@ abbrev pub before_latest : History → History
 before_latest [] = []
 before_latest (a ∷ h) = h
 
--- a clear how many orders of the symbol were left before it, and all their shares: with them none of the symbol's are; an add its own shares; an execution or a cancel what is left of the order; a trade or a break the symbol's volume
+-- a clear how many orders of the symbol were left before it, and so many shares that then none of the
+-- symbol's are left; an add its own shares; an execution or a cancel what is left of the order; a
+-- trade or a break the symbol's volume
 abbrev pub IsAnswer : Event → Outcome → History → Type 0
 IsAnswer (clears s) a h =
-    (a.orders ≡ orders_left s (before_latest h)) × (shares_added s h ≡ shares_taken s h + shares_cleared s h)
+    (a.orders ≡ orders_left s (before_latest h))
+    × (shares_added s h ≡ shares_taken s h + shares_cleared s h)
 IsAnswer (adds o) a h = IsShares a o.shares
 IsAnswer (executes order shares execution) a h = IsWhatIsLeft a (logged_order order h)
 IsAnswer (cancels order shares) a h = IsWhatIsLeft a (logged_order order h)

@@ -1,4 +1,4 @@
-// Why a ledger accepts no message.
+//! Why a ledger accepts no message.
 ghost use Rattle.std.specs.Prelude.{◌≡◌};
 ghost use Rattle.day_rules.specs.declared.fault.LedgerFault.TheVariants.{Message as of_message};
 
@@ -6,7 +6,7 @@ use messages::fault::MessageFault;
 
 mod number;
 
-// One of a ledger's three stores, by what it holds.
+/// One of a ledger's three stores, by what it holds.
 #[derive(Clone, Copy, PartialEq, Eq, Debug)]
 pub enum StoreName {
     Order,
@@ -16,23 +16,23 @@ pub enum StoreName {
 
 #[derive(Clone, Copy, PartialEq, Eq, Debug)]
 pub enum LedgerFault {
-    // The line is no message: the reader's fault, whole.
+    /// The line is no message: the reader's fault, whole.
     Message(MessageFault),
-    // An add's Order ID rests.
+    /// An add's Order ID rests.
     Resting,
-    // An execution or a cancel names no resting order.
+    /// An execution or a cancel names no resting order.
     Absent,
-    // More shares than are left of the order.
+    /// More shares than are left of the order.
     Excess,
-    // The Execution ID is stored.
+    /// The Execution ID is stored.
     Repeated,
-    // A break names no stored execution.
+    /// A break names no stored execution.
     Unmatched,
-    // A break names a broken one.
+    /// A break names a broken one.
     Broken,
-    // A record is needed, and its store is at its limit.
+    /// A record is needed, and its store is at its limit.
     Full(StoreName),
-    // The day limit is reached.
+    /// The day limit is reached.
     Closed,
 }
 

@@ -30,7 +30,10 @@ impl Model for FirstRows {
 
     ghost inverse = { λ rs. record { places = filled_up rs; count = length rs } };
 
-    ghost inverse_ok = { λ a h. λ i. record { places = filled_back a.count a.places h i; count = length_taken a.count a.places h i } };
+    ghost inverse_ok = { λ a h. λ i. record {
+      places = filled_back a.count a.places h i;
+      count = length_taken a.count a.places h i;
+    } };
 }
 
 impl FirstRows {

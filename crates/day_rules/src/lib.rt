@@ -1,4 +1,5 @@
-// The rules of a day: what each message does, why it is refused, and what a log of messages and questions adds up to.
+//! The rules of a day: what each message does, why it is refused, and what a log of messages and
+//! questions adds up to.
 #![tactic(auto)]
 
 pub mod answer;

@@ -19,7 +19,8 @@ impl<O: Store<Order>, E: Store<Execution>, S: Store<SymbolRow>> Ledger<O, E, S> 
     pub fn call(&mut self, call: Call) -> Answer
         ensures says { result ≡ call_answer (call_of call.entry) self.old }
         ensures leaves { self.new ≡ call_left (call_of call.entry) self.old }
-        ensures logged { (log : Log) → Logged log self.old → Logged (record { call = call_of call.entry; answer = result } ∷ log) self.new }
+        ensures logged { (log : Log) → Logged log self.old
+            → Logged (record { call = call_of call.entry; answer = result } ∷ log) self.new }
     {
         match call {
             Call::Line(line) => Answer::Line(self.put(line)),
@@ -27,10 +28,12 @@ impl<O: Store<Order>, E: Store<Execution>, S: Store<SymbolRow>> Ledger<O, E, S> 
         }
     }
 
-    /// Replies to a question, and changes nothing. A reply holds 64 rows at most, however many are asked for.
+    /// Replies to a question, and changes nothing. A reply holds 64 rows at most, however many are
+    /// asked for.
     pub fn reply(&self, question: Question) -> Reply
         ensures says { result ≡ reply (held_back question) self.now }
-        ensures logged { (log : Log) → Logged log self.now → Logged (question_put (held_back question) result ∷ log) self.now }
+        ensures logged { (log : Log) → Logged log self.now
+            → Logged (question_put (held_back question) result ∷ log) self.now }
     {
         match question {
             Question::Order(id) => Reply::Order(self.order(id)),

@@ -1,4 +1,4 @@
-// What a ledger is.
+//! What a ledger is.
 ghost use Rattle.std.specs.Prelude.{ℕ};
 
 use records::execution::Execution;
@@ -7,8 +7,8 @@ use records::symbol_row::SymbolRow;
 use std::marker::Model;
 use store::store::Store;
 
-// Three stores, whichever suit the memory, a day limit, and how many messages were accepted. Contracts see the day that it keeps; the stores are in order from the
-// opening on.
+/// Three stores, whichever suit the memory, a day limit, and how many messages were accepted.
+/// Contracts see the day that it keeps; the stores are in order from the opening on.
 #[derive(Drop)]
 pub struct Ledger<O: Store<Order>, E: Store<Execution>, S: Store<SymbolRow>> {
     pub(crate) orders: O,

@@ -1,4 +1,4 @@
-// Opening a ledger.
+//! Opening a ledger.
 ghost use Rattle.std.specs.Prelude.{◌≡◌, []};
 ghost use Rattle.day_rules.specs.Days.{opening};
 ghost use Rattle.day_rules.specs.Log.{Logged};
@@ -9,11 +9,11 @@ use records::order::Order;
 use records::symbol_row::SymbolRow;
 use store::store::Store;
 
-// The greatest day limit.
+/// The greatest day limit.
 pub const GREATEST_LIMIT: u64 = 1_000_000_000;
 
 impl<O: Store<Order>, E: Store<Execution>, S: Store<SymbolRow>> Ledger<O, E, S> {
-    // Over three stores, which are emptied, whatever they held.
+    /// Over three stores, which are emptied, whatever they held.
     pub fn open(orders: O, executions: E, symbols: S, day_limit: u64) -> Ledger<O, E, S>
         ensures opened { result ≡ opening (O.Store.model orders) (E.Store.model executions) (S.Store.model symbols) day_limit }
         ensures logged { Logged [] result }

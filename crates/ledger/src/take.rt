@@ -1,10 +1,11 @@
-// The message call.
+//! The message call.
 ghost use Rattle.std.specs.Prelude.{◌≡◌, ℕ, ◌↔◌, List, ◌∷◌, OnErr};
 ghost use Rattle.messages.specs.Telling.{line_message};
 ghost use Rattle.day_rules.specs.Due.{LineDue, Refuses};
 ghost use Rattle.day_rules.specs.Events.{event_of};
 ghost use Rattle.day_rules.specs.Faults.{Carried};
-ghost use Rattle.day_rules.specs.Laws.{SharesBalance, OrdersAddUp, TurnoverAddsUp, AnswersAddUp, NoneBrokenTwice};
+ghost use Rattle.day_rules.specs.Laws.{SharesBalance, OrdersAddUp, TurnoverAddsUp};
+ghost use Rattle.day_rules.specs.Laws.{AnswersAddUp, NoneBrokenTwice};
 ghost use Rattle.day_rules.specs.Log.{Log, Logged, line_put};
 ghost use Rattle.day_rules.specs.Rules.{event_answer, event_after, answer, next};
 ghost use Rattle.ledger.specs.Steps.{answered, followed, or_unread};
@@ -21,7 +22,8 @@ use records::symbol_row::SymbolRow;
 use store::store::Store;
 
 impl<O: Store<Order>, E: Store<Execution>, S: Store<SymbolRow>> Ledger<O, E, S> {
-    // Takes a line, any bytes: what it did to the book, or why it is refused. A refusal changes nothing.
+    /// Takes a line, any bytes: what it did to the book, or why it is refused. A refusal changes
+    /// nothing.
     pub fn put(&mut self, line: &[u8]) -> Result<Outcome, LedgerFault>
         ensures says { result ≡ answer line.now self.old }
         ensures leaves { self.new ≡ next line.now self.old }
@@ -29,12 +31,18 @@ impl<O: Store<Order>, E: Store<Execution>, S: Store<SymbolRow>> Ledger<O, E, S> 
         ensures due { (n : ℕ) (c : Carried) → Refuses result n c ↔ LineDue line.now self.old n c }
         ensures refused { OnErr result (self.new ≡ self.old) }
         // Whatever log led to the day before, with this line it leads to the day after.
-        ensures logged { (log : Log) → Logged log self.old → Logged (line_put line.now result ∷ log) self.new }
-        ensures shares_balance { (log : Log) → Logged log self.old → SharesBalance (line_put line.now result ∷ log) self.new }
-        ensures orders_add_up { (log : Log) → Logged log self.old → OrdersAddUp (line_put line.now result ∷ log) self.new }
-        ensures turnover_adds_up { (log : Log) → Logged log self.old → TurnoverAddsUp (line_put line.now result ∷ log) self.new }
-        ensures answers_add_up { (log : Log) → Logged log self.old → AnswersAddUp (line_put line.now result ∷ log) }
-        ensures none_broken_twice { (log : Log) → Logged log self.old → NoneBrokenTwice (line_put line.now result ∷ log) }
+        ensures logged { (log : Log) → Logged log self.old
+            → Logged (line_put line.now result ∷ log) self.new }
+        ensures shares_balance { (log : Log) → Logged log self.old
+            → SharesBalance (line_put line.now result ∷ log) self.new }
+        ensures orders_add_up { (log : Log) → Logged log self.old
+            → OrdersAddUp (line_put line.now result ∷ log) self.new }
+        ensures turnover_adds_up { (log : Log) → Logged log self.old
+            → TurnoverAddsUp (line_put line.now result ∷ log) self.new }
+        ensures answers_add_up { (log : Log) → Logged log self.old
+            → AnswersAddUp (line_put line.now result ∷ log) }
+        ensures none_broken_twice { (log : Log) → Logged log self.old
+            → NoneBrokenTwice (line_put line.now result ∷ log) }
     {
         self.take_line(line)
     }

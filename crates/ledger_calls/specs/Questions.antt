@@ -1,4 +1,5 @@
--- The call that a line makes. A question is a question mark and a verb, and after it as many words as the verb takes.
+-- The call that a line makes. A question is a question mark and a verb, and after it as many words
+-- as the verb takes.
 use Rattle.std.specs.Prelude.{ℕ, cond, List, [], ◌∷◌, Some, None, codes, Option, ◌==◌, nat_le, option_map}
 use Rattle.std.specs.Str.{bytes_eq}
 use Rattle.messages.specs.declared.code.Side.{Side}

@@ -41,7 +41,8 @@ then_said call said log = log
 -- the log after lines one after the other: each call with the answer that is printed
 abbrev pub log_said : Log → List (List ℕ) → Day → Log
 log_said log [] d = log
-log_said log (line ∷ lines) d = log_said (then_said (call_made line) (said_to line d) log) lines (day_left line d)
+log_said log (line ∷ lines) d =
+    log_said (then_said (call_made line) (said_to line d) log) lines (day_left line d)
 
 -- the day that they leave
 abbrev pub day_said : List (List ℕ) → Day → Day
@@ -51,7 +52,8 @@ day_said (line ∷ lines) d = day_said lines (day_left line d)
 -- every law of logs holds of what is put, asked and answered behind the line that opens a ledger
 abbrev pub HasOpenedLaws : Option Opening → List (List ℕ) → Type 0
 HasOpenedLaws None lines = Unit {0}
-HasOpenedLaws (Some o) lines = LogLaws (log_said [] lines (day_opened o)) (day_said lines (day_opened o))
+HasOpenedLaws (Some o) lines =
+    LogLaws (log_said [] lines (day_opened o)) (day_said lines (day_opened o))
 
 unfoldable pub HasLaws : List (List ℕ) → Type 0
 HasLaws [] = Unit {0}

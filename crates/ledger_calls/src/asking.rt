@@ -1,4 +1,4 @@
-// What a ledger says to a line.
+//! What a ledger says to a line.
 ghost use Rattle.std.specs.Prelude.{◌≡◌};
 ghost use Rattle.ledger_calls.specs.Replies.{said_to, day_left};
 
@@ -10,7 +10,7 @@ use records::order::Order;
 use records::symbol_row::SymbolRow;
 use store::store::Store;
 
-// Makes the call that a line is, and answers it; a line that is none changes nothing.
+/// Makes the call that a line is, and answers it; a line that is none changes nothing.
 pub fn say<O: Store<Order>, E: Store<Execution>, S: Store<SymbolRow>>(
     ledger: &mut Ledger<O, E, S>,
     line: &[u8],

@@ -1,4 +1,4 @@
-// What a line says that is not put to the ledger.
+//! What a line says that is not put to the ledger.
 ghost use Rattle.std.specs.Prelude.{◌≡◌, None, Some, MatchOption};
 ghost use Rattle.words.specs.Words.{words, words_after};
 ghost use Rattle.ledger_calls.specs.Openings.{opening_of, sizes_of};
@@ -19,7 +19,7 @@ use words::number::{first_number, one_number};
 // No line opens a ledger over stores of more records.
 const MOST: u64 = 64;
 
-// The ledger that a line opens.
+/// The ledger that a line opens.
 pub fn opening(line: &[u8]) -> Option<Opening>
     ensures { result ≡ opening_of line.now }
 {
@@ -45,9 +45,11 @@ fn sizes(rest: &[u8]) -> Option<Opening>
     })
 }
 
-// The call that a line makes: a question, or it is put to the ledger; none where what stands behind a question mark is no question.
+/// The call that a line makes: a question, or it is put to the ledger; none where what stands
+/// behind a question mark is no question.
 pub fn call(line: &[u8]) -> Option<Call>
-    ensures { MatchOption result (call_made line.now ≡ None) (λ call. call_made line.now ≡ Some (call_of call)) }
+    ensures { MatchOption result (call_made line.now ≡ None)
+        (λ call. call_made line.now ≡ Some (call_of call)) }
 {
     match asked(line) {
         Some(text) => Some(Call::Question(question(text)?)),

@@ -1,4 +1,4 @@
-// From the first line to the last.
+//! From the first line to the last.
 ghost use Rattle.std.specs.Prelude.{◌≡◌, IfSome, OnOk};
 ghost use Rattle.std.specs.Io.KnownBytes.{Appends};
 ghost use Rattle.capture.specs.Held.{held};
@@ -26,17 +26,20 @@ use std::io::{BufRead, ErrorKind, Write};
 use std::{fmt, io};
 use store::store::Store;
 
-/// Answers every line of the input on the output. Where the first opens no ledger, nothing more is answered. Whatever is read, the calls that it makes and the answers to
-/// them are a log that adds up. More lines than can be counted, 2^64 - 1 behind the first, are a file too large.
+/// Answers every line of the input on the output. Where the first opens no ledger, nothing more is
+/// answered. Whatever is read, the calls that it makes and the answers to them are a log that adds
+/// up. More lines than can be counted, 2^64 - 1 behind the first, are a file too large.
 pub fn run<R: BufRead, W: Write>(heap: Global, input: &mut R, output: &mut W) -> io::Result<()>
-    ensures prints { OnOk result (IfSome (R.remaining input.old) (λ bytes. Appends (W.contents output.old) (W.contents output.new) (run_text (lines_of bytes)))) }
+    ensures prints { OnOk result (IfSome (R.remaining input.old) (λ bytes.
+        Appends (W.contents output.old) (W.contents output.new) (run_text (lines_of bytes)))) }
     ensures laws { IfSome (R.remaining input.old) (λ bytes. HasLaws (lines_of bytes)) }
 {
     answer_all(heap, input, output)
 }
 
 fn answer_all<R: BufRead, W: Write>(heap: Global, input: &mut R, output: &mut W) -> io::Result<()>
-    ensures { OnOk result (IfSome (R.remaining input.old) (λ bytes. Appends (W.contents output.old) (W.contents output.new) (run_text (lines_of bytes)))) }
+    ensures { OnOk result (IfSome (R.remaining input.old) (λ bytes.
+        Appends (W.contents output.old) (W.contents output.new) (run_text (lines_of bytes)))) }
 {
     let mut line = LineBuffer::new();
     if next_line(input, &mut line)? {

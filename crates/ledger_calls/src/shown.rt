@@ -1,4 +1,4 @@
-// How what is said to a line is shown.
+//! How what is said to a line is shown.
 ghost use Rattle.std.specs.Prelude.{Some};
 ghost use Rattle.ledger_calls.specs.Texts.{reply_text, rows_text, said_text, opening_text};
 

@@ -1,12 +1,21 @@
 // What a ledger may easily get wrong, and an input whose first line opens none.
 use crate::running::{answer_lines, run};
 use capture::count::LineCount;
+use day_rules::answer::Answer;
+use day_rules::call::Call;
+use day_rules::fault::LedgerFault;
+use day_rules::first_rows::FirstRows;
+use day_rules::outcome::Outcome;
+use day_rules::question::Question;
+use day_rules::reply::Reply;
 use front_row::front_row::FrontRow;
 use hashed_store::hashed::HashedStore;
 use ledger::ledger::Ledger;
+use ledger::session::keep_session;
 use records::execution::Execution;
 use records::order::Order;
 use records::symbol_row::SymbolRow;
+use row_store::row::RowStore;
 use std::alloc::Global;
 use std::process::Abort;
 use std::test::Fail;
@@ -95,5 +104,45 @@ fn other_stores_answer_alike(rt: HostRuntime) -> Result<(), Fail> {
     let expected =
         b"(line 1 (took 0 0))\n(line 2 (took 0 500))\n(line 3 (took 0 300))\n(line 4 (took 1 0))\n(line 5 (took 0 300))\n(line 6 (took 0 200))\n(line 7 (took 0 100))\n(line 8 (refused 11))\n(line 9 (symbol ABCD (volume 100) (value 0 10500000)))\n(line 10 (book (orders 1) (shares 200) (best 105000)))\n";
     assert!(rt; output.as_slice() == &expected[..]);
+    Ok(())
+}
+
+// Lines and questions in one call, and one call more than there is room for.
+#[test]
+fn a_session_is_kept_in_one_call(rt: HostRuntime) -> Result<(), Fail> {
+    let (mut orders, mut executions) = ([Order::BLANK; 2], [Execution::BLANK; 2]);
+    let mut symbols = [SymbolRow::BLANK; 2];
+    let stores = (
+        RowStore::new(&mut orders),
+        RowStore::new(&mut executions),
+        RowStore::new(&mut symbols),
+    );
+    let calls = [
+        Call::Line(b"34200000A0000000000A1B000500ABCD  0000102500Y"),
+        Call::Question(Question::Rows(65)),
+        Call::Line(b"34200001sABCD    "),
+        Call::Question(Question::Accepted),
+        Call::Line(b"34200002X0000000000A1000300"),
+    ];
+    let mut answers = [Answer::Line(Err(LedgerFault::Closed)); 4];
+    let ledger = keep_session(stores, 9, &calls, &mut answers);
+    let row = SymbolRow {
+        symbol: 4702394920804032544,
+        ..SymbolRow::BLANK
+    };
+    let expected = [
+        Answer::Line(Ok(Outcome {
+            orders: 0,
+            shares: 500,
+        })),
+        Answer::Question(Reply::Rows(FirstRows::of(&[row]))),
+        Answer::Line(Ok(Outcome {
+            orders: 1,
+            shares: 500,
+        })),
+        Answer::Question(Reply::Accepted(2)),
+    ];
+    assert!(&rt; answers == expected);
+    assert!(&rt; ledger.accepted() == 2);
     Ok(())
 }
