@@ -139,6 +139,12 @@ pub kept-at : (a b : Option (List ℕ)) (xs : List ℕ) → a ≡ Some xs → Ke
 kept-at a None xs e kept = absurd (subst (λ q. Keeps q None) e kept)
 kept-at a (Some ys) xs e kept = ap Some (subst (λ q. Keeps q (Some ys)) e kept)
 
+-- what holds of the bytes that stayed
+pub kept-known : (a b : Option (List ℕ)) (P : List ℕ → Type 0) → Keeps a b → IfSome b P → IfSome a P
+kept-known None b P kept h = tt
+kept-known (Some xs) None P kept h = absurd kept
+kept-known (Some xs) (Some ys) P kept h = subst P kept h
+
 -- what is left once some of what was shown is used
 pub used-at : (a b c : Option (List ℕ)) (limit : Option ℕ) (xs : List ℕ) (n used : ℕ) → a ≡ Some xs → Keeps a b → IfSome a (λ _. IfSome limit (λ k. n ≤ k)) → used ≤ n
     → DropsConsumable b c limit used → c ≡ Some (drop used xs)

@@ -2,6 +2,7 @@
 ghost use Rattle.std.specs.Prelude.{◌≡◌, ◌≢◌, ◌↔◌, IsTrue, [], ◌∷◌, ◌++◌, MatchBool, take, IfSome, IfOk, IfErr, OnOk, OnErr};
 ghost use Rattle.std.specs.IoError.{error_kind};
 ghost use Rattle.std.specs.Io.BufRead.{DropsThrough, drop_through};
+ghost use Rattle.std.specs.Io.KnownBytes.{Keeps};
 ghost use Rattle.capture.specs.Begun.{IsBegun};
 ghost use Rattle.capture.specs.Held.{held, if_there};
 ghost use Rattle.capture.specs.Lines.{next_of, lines_of};
@@ -53,6 +54,22 @@ pub fn next_line<R: BufRead>(input: &mut R, line: &mut LineBuffer) -> io::Result
             return Ok(true);
         }
         input.consume(count);
+    }
+    Err(too_long())
+}
+
+/// Reads on until a byte is at hand or the input is at its end, and takes none. A read that was
+/// interrupted is made again, and an `Err` is as that of `next_line`.
+pub fn wait<R: BufRead>(input: &mut R) -> io::Result<()>
+    ensures keeps { Keeps (R.remaining input.old) (R.remaining input.new) }
+    ensures retried { IfErr result (λ error. error_kind error ≢ ErrorKind.Interrupted) }
+{
+    for _ in 0..u64::MAX {
+        match input.fill_buf() {
+            Ok(_) => return Ok(()),
+            Err(error) if is_interrupted(&error) => {}
+            Err(error) => return Err(error),
+        }
     }
     Err(too_long())
 }

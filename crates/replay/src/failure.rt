@@ -1,5 +1,7 @@
 // Why nothing is replayed, or no more.
+ghost use Rattle.std.specs.Prelude.{◌≡◌};
 ghost use Rattle.replay.specs.Failures.{failure_text};
+ghost use Rattle.replay.specs.declared.failure.Failure.TheVariants.{Other};
 
 use options::complaint::Complaint;
 use std::fmt;
@@ -19,6 +21,8 @@ pub enum Failure<'a> {
 }
 
 impl<'a> From<Error> for Failure<'a> {
+    ghost from_gives = { λ error f. f ≡ Other error };
+
     fn from(error: Error) -> Failure<'a> {
         Failure::Other(error)
     }

@@ -26,9 +26,11 @@ pub fn arguments(rt: &HostRuntime) -> io::Result<Vec<Vec<u8>>>
     Ok(words)
 }
 
-// Words as slices, by which they are read.
+/// Words as slices, by which they are read. Only the memory can fail.
 pub fn bytes_of<'a>(heap: Global, words: &'a [Vec<u8>]) -> io::Result<Vec<&'a [u8]>>
-    ensures { IfOk result (λ slices. map (λ slice. slice.now) slices.items ≡ map (λ word. word.items) words.now) }
+    ensures slices { IfOk result (λ slices.
+        map (λ slice. slice.now) slices.items ≡ map (λ word. word.items) words.now) }
+    ensures memory { IfErr result (λ error. error_kind error ≡ ErrorKind.OutOfMemory) }
 {
     let mut slices = Vec::new(heap);
     for word in words {
