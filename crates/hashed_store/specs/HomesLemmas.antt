@@ -1,11 +1,12 @@
 -- Homes are slots.
 use Rattle.std.specs.Prelude.{ℕ, ◌*◌, ◌/◌, ◌^◌, ◌<◌}
 use Rattle.std.proofs.Common.{arith}
+use Rattle.std.proofs.lemmas.Bool.{ne_eqb}
 use Rattle.std.proofs.Math.Nat.{div-lt_iff_lt-mul, mul-lt-mul_of_pos_right, mod-lt}
 use Rattle.hashed_store.specs.Homes.{modulo, point, spread}
 
 pub modulo_inside : (n k : ℕ) → 0 < n → modulo n k < n
-modulo_inside n k some = mod-lt k some
+modulo_inside n k some = rw (ne_eqb n 0 (λ e. omega arith)) (mod-lt k some)
 
 point_below : (n k : ℕ) → point n k < 2 ^ 64
 unfolding point

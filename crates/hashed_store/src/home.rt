@@ -9,9 +9,8 @@ pub trait Home: Copy {
     // of so many slots, that of a key
     ghost home: { ℕ → ℕ → ℕ };
 
-    /// The slot where the search for a key starts, of so many.
+    /// The slot where the search for a key starts, of so many; 0 where there is none.
     fn home(&self, key: u64, slots: usize) -> usize
-        requires { 0 < slots }
         ensures { result ≡ home slots key };
 
     ghost inside: { (n k : ℕ) → 0 < n → home n k < n };

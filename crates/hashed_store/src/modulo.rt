@@ -27,6 +27,9 @@ impl Home for Modulo {
 
     #[inline(always)]
     fn home(&self, key: u64, slots: usize) -> usize {
+        if slots == 0 {
+            return 0;
+        }
         rest(key, slots as u64, upper_half(key, self.inverse)) as usize
     }
 }
