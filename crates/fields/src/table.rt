@@ -13,10 +13,10 @@ pub(crate) struct Row {
 
 /// The row of a byte. All that is asked about a byte of a field is asked here.
 #[inline(always)]
-pub(crate) fn look_up(byte: u8) -> Row
-    ensures { result ≡ row_of byte }
+pub(crate) fn look_up(byte: u8) -> &'static Row
+    ensures { result.now ≡ row_of byte }
 {
-    ROWS[byte as usize]
+    &ROWS[byte as usize]
 }
 
 const SPACE: Row = Row {

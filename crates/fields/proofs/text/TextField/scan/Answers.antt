@@ -20,15 +20,15 @@ byte-keeps f xs j x class spaced fits here is before e = rw (e, is, before, clas
 pub returns-then-not-fits : goal.returns-then-not-fits
 returns-then-not-fits c =
     let here = in-front _ _ _ c.front-held.ensures c.loop-place.place c.loop-place-test.true in
-    scan-stops _ _ _ (stops-here (text_slot c.args.self) c.args.line.now _ _ here.0 c.loop-place.invariant.0 (byte-keeps c.args.self c.args.line.now c.loop-place.place _ _ _ _ here.2 (ap (λ r. r.class) c.look_up-class.ensures) c.loop-place.invariant.3 c.if-not-fits.ensures))
+    scan-stops _ _ _ (stops-here (text_slot c.args.self) c.args.line.now _ _ here.0 c.loop-place.invariant.0 (byte-keeps c.args.self c.args.line.now c.loop-place.place _ _ _ _ here.2 (ap (λ r. r.class) c.look_up.ensures) c.loop-place.invariant.3 c.if-not-fits.ensures))
 
 pub loop-place-preserved : goal.loop-place-preserved
 loop-place-preserved c =
     let here = in-front _ _ _ c.front-held.ensures c.loop-place.place c.loop-place-test.true in (
-      passes-step (text_slot c.args.self) c.args.line.now _ c.loop-place.invariant.0 here.1 (byte-keeps c.args.self c.args.line.now c.loop-place.place _ _ _ _ here.2 (ap (λ r. r.class) c.look_up-class.ensures) c.loop-place.invariant.3 c.if-not-fits.ensures),
+      passes-step (text_slot c.args.self) c.args.line.now _ c.loop-place.invariant.0 here.1 (byte-keeps c.args.self c.args.line.now c.loop-place.place _ _ _ _ here.2 (ap (λ r. r.class) c.look_up.ensures) c.loop-place.invariant.3 c.if-not-fits.ensures),
       rw (number_more 256 _ _ here.1, ← c.loop-place.invariant.1, here.2),
       rw here.2 (push-lt 256 _ _ _ c.loop-place.invariant.2 (c.type_inv.line c.loop-place.place).fits),
-      rw add-one (c.is_space-spaced.ensures ∙ ap (λ r. is_blank r.class) c.look_up-class.ensures ∙ class-blank _ ∙ ap (λ b. eqb b 32) here.2),
+      rw add-one (c.is_space-spaced.ensures ∙ ap (λ r. is_blank r.class) c.look_up.ensures ∙ class-blank _ ∙ ap (λ b. eqb b 32) here.2),
     )
 
 pub returns-then-held-self : goal.returns-then-held-self
