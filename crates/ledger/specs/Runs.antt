@@ -1,6 +1,6 @@
--- Lines, or calls of any sort, one after the other, as many as there are places for answers. What each
--- is answered and what day it leaves are given: `answer` and `next` of a line, `call_answer` and
--- `call_left` of a call.
+-- Lines, or calls of any sort, one after the other, as many as there are places for answers. What
+-- each is answered and what day it leaves are given: `answer` and `next` of a line, `call_answer`
+-- and `call_left` of a call.
 use Rattle.std.specs.Prelude.{List, [], ◌∷◌}
 use Rattle.day_rules.specs.declared.answer.Answer.{Answer}
 use Rattle.day_rules.specs.Calls.{Call}

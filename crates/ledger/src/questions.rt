@@ -47,7 +47,8 @@ impl<O: Store<Order>, E: Store<Execution>, S: Store<SymbolRow>> Ledger<O, E, S> 
     pub fn execution(&self, id: u64) -> Option<Execution>
         ensures says { result ≡ execution_in id self.now }
         ensures logged { (log : Log) → Logged log self.now
-            → Logged (question_put (question.Execution id) (replies.Execution result) ∷ log) self.now }
+            → Logged
+            (question_put (question.Execution id) (replies.Execution result) ∷ log) self.now }
         ensures by_log { (log : Log) → Logged log self.now
             → result ≡ logged_execution id (history log) }
     {
@@ -84,7 +85,8 @@ impl<O: Store<Order>, E: Store<Execution>, S: Store<SymbolRow>> Ledger<O, E, S> 
         ensures says { Listed self.now.symbols.rows places.old places.new result }
         ensures logged { (log : Log) → Logged log self.now
             → Logged
-            (question_put (question.Rows (length places.old)) (replies.Rows (take result places.new)) ∷ log)
+            (question_put (question.Rows (length places.old))
+            (replies.Rows (take result places.new)) ∷ log)
             self.now }
         ensures by_log { (log : Log) → Logged log self.now
             → length self.now.symbols.rows ≤ length places.old → (symbol : ℕ)
@@ -97,7 +99,9 @@ impl<O: Store<Order>, E: Store<Execution>, S: Store<SymbolRow>> Ledger<O, E, S> 
     pub fn first_rows(&self, most: u64) -> FirstRows
         ensures says { result ≡ rows_in (min most most_rows) self.now }
         ensures logged { (log : Log) → Logged log self.now
-            → Logged (question_put (question.Rows (min most most_rows)) (replies.Rows result) ∷ log) self.now }
+            → Logged
+            (question_put (question.Rows (min most most_rows)) (replies.Rows result) ∷ log)
+            self.now }
     {
         let mut places = [SymbolRow::BLANK; FirstRows::MOST];
         let most = most.min(FirstRows::MOST as u64);
@@ -124,7 +128,8 @@ impl<O: Store<Order>, E: Store<Execution>, S: Store<SymbolRow>> Ledger<O, E, S> 
             → result.depth.orders.number
             ≡ length (those (rests_on symbol side) self.now.orders.rows) }
         ensures logged { (log : Log) → Logged log self.now
-            → Logged (question_put (question.Book symbol side) (replies.Book result) ∷ log) self.now }
+            → Logged
+            (question_put (question.Book symbol side) (replies.Book result) ∷ log) self.now }
         ensures balance { (log : Log) → Logged log self.now
             → IsBalanced (history log) symbol
             (result.depth.shares.number

@@ -32,7 +32,8 @@ impl<O: Store<Order>, E: Store<Execution>, S: Store<SymbolRow>> Ledger<O, E, S> 
             ≡ day_on next self.old (map (λ line. line.now) lines.now) answers.old }
         ensures logged { (log : Log) → Logged log self.old
             → Logged
-            (log_on log (map line (map (λ line. line.now) lines.now)) (map answered.Line answers.new))
+            (log_on log (map line (map (λ line. line.now) lines.now))
+            (map answered.Line answers.new))
             self.new }
     {
         self.put_each(lines, answers)

@@ -16,8 +16,8 @@ use records::symbol_row::SymbolRow;
 use store::store::Store;
 
 /// Keeps a session: opens a ledger over three stores, whatever they hold, and makes the calls one
-/// after the other, as many as there is room for answers. Each answer goes to the place of its call;
-/// the places behind them stay. Answers the ledger.
+/// after the other, as many as there is room for answers. Each answer goes to the place of its
+/// call; the places behind them stay. Answers the ledger.
 pub fn keep_session<O: Store<Order>, E: Store<Execution>, S: Store<SymbolRow>>(
     stores: (O, E, S),
     day_limit: u64,
@@ -26,11 +26,13 @@ pub fn keep_session<O: Store<Order>, E: Store<Execution>, S: Store<SymbolRow>>(
 ) -> Ledger<O, E, S>
     ensures answers { answers.new
         ≡ answers_on call_answer call_left
-        (opening (O.Store.model stores.0) (E.Store.model stores.1) (S.Store.model stores.2) day_limit)
+        (opening (O.Store.model stores.0) (E.Store.model stores.1)
+        (S.Store.model stores.2) day_limit)
         (map call_of calls.now) answers.old }
     ensures leaves { result
         ≡ day_on call_left
-        (opening (O.Store.model stores.0) (E.Store.model stores.1) (S.Store.model stores.2) day_limit)
+        (opening (O.Store.model stores.0) (E.Store.model stores.1)
+        (S.Store.model stores.2) day_limit)
         (map call_of calls.now) answers.old }
     ensures logged { Logged (log_of (map call_of calls.now) answers.new) result }
     ensures shares_balance { SharesBalance (log_of (map call_of calls.now) answers.new) result }
@@ -52,11 +54,13 @@ fn open_and_call<O: Store<Order>, E: Store<Execution>, S: Store<SymbolRow>>(
 ) -> Ledger<O, E, S>
     ensures answers { answers.new
         ≡ answers_on call_answer call_left
-        (opening (O.Store.model stores.0) (E.Store.model stores.1) (S.Store.model stores.2) day_limit)
+        (opening (O.Store.model stores.0) (E.Store.model stores.1)
+        (S.Store.model stores.2) day_limit)
         (map call_of calls.now) answers.old }
     ensures leaves { result
         ≡ day_on call_left
-        (opening (O.Store.model stores.0) (E.Store.model stores.1) (S.Store.model stores.2) day_limit)
+        (opening (O.Store.model stores.0) (E.Store.model stores.1)
+        (S.Store.model stores.2) day_limit)
         (map call_of calls.now) answers.old }
     ensures logged { Logged (log_of (map call_of calls.now) answers.new) result }
 {
