@@ -88,9 +88,7 @@ fn other_stores_answer_alike(rt: HostRuntime) -> Result<(), Fail> {
     let Ok(orders) = HashedStore::<Order>::new(&mut order_tags, &mut orders) else {
         unreachable!()
     };
-    let Ok(executions) =
-        HashedStore::<Execution>::new(&mut execution_tags, &mut executions)
-    else {
+    let Ok(executions) = HashedStore::<Execution>::new(&mut execution_tags, &mut executions) else {
         unreachable!()
     };
     let Ok(symbols) = HashedStore::<SymbolRow>::new(&mut symbol_tags, &mut symbols) else {
