@@ -68,7 +68,7 @@ pub fn wait<R: BufRead>(input: &mut R) -> io::Result<()>
         match input.fill_buf() {
             Ok(_) => return Ok(()),
             Err(error) if is_interrupted(&error) => {}
-            Err(error) => return Err(error),
+            Err(other) => return Err(other),
         }
     }
     Err(too_long())

@@ -1,4 +1,4 @@
-// Replays the day of standard input by many command lines: over each sort of store, with little room, and with each mistake.
+//! Replays the day of standard input by many command lines: over each sort of store, with little room, and with each mistake.
 #![tactic(auto)]
 
 mod commands;
@@ -6,6 +6,7 @@ mod running;
 #[cfg(test)]
 mod tests;
 
+use commands::COMMANDS;
 use running::run;
 use std::io::{BufWriter, Read};
 use std::process::ExitCode;
@@ -24,5 +25,5 @@ fn replay_all(rt: &HostRuntime) -> Result<(), Failure> {
     let mut day = Vec::new(heap);
     input.read_to_end(&mut day)?;
     let mut output = BufWriter::new(heap, Named::new("standard output", heap, rt.stdout()))?;
-    Ok(run(heap, day.as_slice(), &mut output)?)
+    Ok(run(heap, &COMMANDS, day.as_slice(), &mut output)?)
 }
