@@ -16,7 +16,6 @@ pub(crate) enum Verb {
     Empty,
 }
 
-// No `TryFrom`: the parser goes by options, and a word that means nothing has no more to say.
 pub(crate) fn verb_of(word: &[u8]) -> Option<Verb>
     ensures { result ≡ verb_meant word.now }
 {

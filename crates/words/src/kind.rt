@@ -14,7 +14,6 @@ pub enum Kind {
 }
 
 /// The kind that a word names.
-// No `TryFrom`: a word that names no kind has no more to say.
 pub fn kind_of(word: &[u8]) -> Option<Kind>
     ensures { result ≡ kind_meant word.now }
 {
