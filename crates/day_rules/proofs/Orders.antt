@@ -5,11 +5,9 @@ use Rattle.std.proofs.lemmas.Bool.{cases_eq, cases_Bool, ne_eqb, eq-eqb, eqb-tru
 use Rattle.std.proofs.lemmas.Bool.Decides.{nat_tests}
 use Rattle.records.specs.declared.order.Order.{Order}
 use Rattle.records.specs.Keys.{order_key}
-use Rattle.store.proofs.Keyed.{lookup_absent}
 use Rattle.store.proofs.Placed.{each_placed, length-placed}
-use Rattle.store.proofs.Lookups.{lookup-others}
-use Rattle.store.proofs.Inserting.{absent-unheld}
-use Rattle.store.proofs.Ruling.{found-key, found-each, each-replaced, length-replaced, each-without, lookup-swept}
+use Rattle.store.specs.Rules.{unless_picked}
+use Rattle.store.proofs.Ruling.{found-key, found-each, each-replaced, length-replaced, each-without, lookup-unpicked}
 use Rattle.store.proofs.Sweeps.{each-others, rising-others}
 use Rattle.store.specs.Lists.{Each, lookup, holds, placed, replaced, without, others, sum}
 use Rattle.book.specs.Books.{is_of}
@@ -249,18 +247,18 @@ module _ (h : History) (os : List Order) (st : OrdersStand h os) (answered : Out
   -- the orders of a symbol are cleared
   module _ (c : ℕ) (reports : answered.shares ≡ sum (shares_if c) os) where
     cleared : (id : ℕ) (x : Option Order) → lookup order_key id os ≡ x → lookup order_key id (others (is_of c) os) ≡ left_after (λ s. eqb c s) 0 x
-    cleared id None e =
-        let absent = absent-unheld order_key id os (ap is_some e) in
-        lookup_absent order_key id (others (is_of c) os) (each-others (is_of c) (λ o. order_key o ≡ id → ⊥) os absent)
+    cleared id None e = lookup-unpicked order_key (is_of c) id os st.rising ∙ ap (unless_picked (is_of c)) e
     cleared id (Some o) e =
-        let key = found-key order_key id os o e in
+        let told : lookup order_key id (others (is_of c) os) ≡ cond (is_of c o) None (Some o) =
+            lookup-unpicked order_key (is_of c) id os st.rising ∙ ap (unless_picked (is_of c)) e in
         ⊎_elim
         (λ t.
-        let swept = lookup-swept order_key (is_of c) o os st.rising (rw key e) t in
-        rw (eq-eqb c o.symbol (sym (eqb-true o.symbol c t))) (subst (λ k. lookup order_key k (others (is_of c) os) ≡ None) key swept))
+        let gone : lookup order_key id (others (is_of c) os) ≡ None = rw t at told in
+        rw (eq-eqb c o.symbol (sym (eqb-true o.symbol c t))) gone)
         (λ t.
         let fits = found-each order_key NarrowOrder id os o st.narrow e in
-        lookup-others order_key (is_of c) id o os t e ∙ rw (ne_eqb c o.symbol (λ s. eqb-false o.symbol c t (sym s))) (sym (untouched o fits.least)))
+        let stays : lookup order_key id (others (is_of c) os) ≡ Some o = rw t at told in
+        stays ∙ rw (ne_eqb c o.symbol (λ s. eqb-false o.symbol c t (sym s))) (sym (untouched o fits.least)))
         (cases_Bool (is_of c o))
 
     pub clear-stands : OrdersStand (said (clears c) answered ∷ h) (others (is_of c) os)
