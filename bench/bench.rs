@@ -70,7 +70,7 @@ mod plain {
     }
 
     #[derive(Clone, Copy, Debug, PartialEq, Eq)]
-    pub struct AttributedAdd {
+    pub struct LongAdd {
         pub add: Add,
         pub participant: u64,
         pub customer: Customer,
@@ -112,7 +112,7 @@ mod plain {
     pub enum Message {
         Clear(Clear),
         AddShort(Add),
-        AddLong(AttributedAdd),
+        AddLong(LongAdd),
         Executed(Execution),
         Cancel(Cancel),
         TradeShort(Trade),
@@ -260,7 +260,7 @@ mod plain {
             Ok(match self.letter {
                 b's' => Message::Clear(Clear { time: self.time()?, symbol: self.symbol::<8>(9)? }),
                 b'A' => Message::AddShort(self.add::<6>()?),
-                b'd' => Message::AddLong(AttributedAdd {
+                b'd' => Message::AddLong(LongAdd {
                     add: self.add::<8>()?,
                     participant: self.participant(47)?,
                     customer: self.customer(51)?,

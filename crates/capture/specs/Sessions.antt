@@ -11,12 +11,15 @@ pub record Prints (was is : Option (List ℕ)) (due later : List (List ℕ) → 
   pub whole : (lines : List (List ℕ)) → printed ++ later lines ≡ due lines
 
 -- with so much of the input left
-pub record Saying (coming was is : Option (List ℕ)) (later : List (List ℕ) → List ℕ) (text : List ℕ) : Type 0 where
+pub record Saying (coming was is : Option (List ℕ)) (later : List (List ℕ) → List ℕ)
+    (text : List ℕ) : Type 0 where
   pub rest : List ℕ
   pub left : coming ≡ Some rest
   pub printed : List ℕ
   pub appends : Appends was is printed
   pub whole : printed ++ later (lines_of rest) ≡ text
 
-abbrev pub Says : (before coming was is : Option (List ℕ)) (due later : List (List ℕ) → List ℕ) → Type 0
-Says before coming was is due later = IfSome before (λ bytes. Saying coming was is later (due (lines_of bytes)))
+abbrev pub Says :
+    (before coming was is : Option (List ℕ)) (due later : List (List ℕ) → List ℕ) → Type 0
+Says before coming was is due later =
+    IfSome before (λ bytes. Saying coming was is later (due (lines_of bytes)))

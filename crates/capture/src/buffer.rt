@@ -3,8 +3,8 @@ ghost use Rattle.std.specs.Prelude.{◌≤◌};
 
 mod filling;
 
-// The first 255 bytes of a line, or what has come of them. A fixed array and how much of it is filled, and no vector: a line of any
-// length takes no more memory, and the buffer can be copied.
+/// The first 255 bytes of a line, or what has come of them: a line of any length takes no more
+/// memory.
 #[derive(Clone, Copy)]
 pub struct LineBuffer {
     bytes: [u8; 255],

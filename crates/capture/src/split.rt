@@ -5,8 +5,8 @@ ghost use Rattle.capture.specs.Splits.{before_end, after_end};
 
 use memchr::memchr;
 
-// What stands before the first line end and what stands after it; without a line end all of it, and nothing. Inlined, since the two
-// slices would be written and read again for each line.
+/// What stands before the first line end and what stands after it; without a line end all of it,
+/// and nothing.
 #[inline(always)]
 pub fn split_line(bytes: &[u8]) -> (&[u8], Option<&[u8]>)
     ensures first { result.0.now ≡ before_end bytes.now }

@@ -14,7 +14,7 @@ const EMPTY: [u8; 32] = [b'.'; 32];
 const ABCD: u64 = 0x4142_4344_2020_2020;
 
 /// A line of 27 bytes at places where it just fits, just does not, and at and past the end.
-pub fn show_places<W: Write>(output: &mut W) -> io::Result<()> {
+pub(crate) fn show_places<W: Write>(output: &mut W) -> io::Result<()> {
     let cancel = Message::OrderCancel(Cancel {
         time: 34_200_020,
         order: 361,
@@ -28,7 +28,7 @@ pub fn show_places<W: Write>(output: &mut W) -> io::Result<()> {
 
 /// A record that lacks nothing but room, and records that no line gives: the first such field is
 /// named, also where there is no room.
-pub fn show_fields<W: Write>(output: &mut W) -> io::Result<()> {
+pub(crate) fn show_fields<W: Write>(output: &mut W) -> io::Result<()> {
     let good = Terms {
         time: 34_200_000,
         order: 361,

@@ -243,9 +243,9 @@ abbrev pub before_latest : History → History
 before_latest [] = []
 before_latest (a ∷ h) = h
 
--- a clear how many orders of the symbol were left before it, and so many shares that then none of the
--- symbol's are left; an add its own shares; an execution or a cancel what is left of the order; a
--- trade or a break the symbol's volume
+-- a clear how many orders of the symbol were left before it, and so many shares that then none of
+-- the symbol's are left; an add its own shares; an execution or a cancel what is left of the order;
+-- a trade or a break the symbol's volume
 abbrev pub IsAnswer : Event → Outcome → History → Type 0
 IsAnswer (clears s) a h =
     (a.orders ≡ orders_left s (before_latest h))

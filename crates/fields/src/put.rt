@@ -22,15 +22,14 @@ fn fill(part: &mut [u8], base: u64, value: u64)
     ensures { part.new ≡ digit_bytes base (length part.old) value }
 {
     let mut left = value;
-    // By place: after `iter_mut().rev()` a proof knows no element of the part.
     for place in (0..part.len()).rev() {
         part[place] = byte_in(base, left % base);
         left /= base;
     }
 }
 
-// The byte that stands for a digit of the base: up to base 36 a digit or a letter, above it the byte
-// itself.
+// The byte that stands for a digit of the base: up to base 36 a digit or a letter, above it the
+// byte itself.
 fn byte_in(base: u64, digit: u64) -> u8
     requires { (digit < base) × (base ≤ 256) }
     ensures { result ≡ byte_within base digit }
@@ -49,7 +48,6 @@ pub(crate) fn put_byte(room: &mut [u8], offset: u8, byte: u8)
     ensures { room.new ≡ over offset (byte ∷ []) room.old }
 {
     let at = offset as usize;
-    // By place: after `get_mut` a proof knows no element of the buffer.
     if at < room.len() {
         room[at] = byte;
     }

@@ -96,7 +96,8 @@ fn has(text: Class, class: ByteClass) -> bool
     }
 }
 
-// The number with so many spaces after it. Step by step, here and below: 256^8 does not fit a `u64`.
+// The number with so many spaces after it. Step by step, here and below: 256^8 does not fit a
+// `u64`.
 fn filled(value: u64, count: u8) -> u64
     requires { (count ≤ 8) × (value < 256 ^ (8 - count)) }
     ensures { result ≡ number_from_digits_after 256 value (replicate count 32) }

@@ -29,8 +29,7 @@ pub(crate) fn way<R: Record, H: Home>(slots: &Slots<'_, R, H>, key: u64, most: u
     }
     let tag = tag(key);
     let mut place = slots.home(key);
-    // The steps taken are part of the answer. The place goes on beside them: from the home and the
-    // steps it would cost a test for the end each time.
+    // The steps taken are part of the answer, and the place goes on beside them.
     for taken in 0..most {
         match slots.look(place, key, tag) {
             Look::Empty => return Ending::Gap(place, taken),

@@ -14,7 +14,7 @@ use crate::parse::opening;
 use crate::shown::Said;
 use capture::buffer::LineBuffer;
 use capture::count::LineCount;
-use capture::input::next_line;
+use capture::input::{next_line, too_long};
 use day_forms::numbered::Numbered;
 use ledger::ledger::Ledger;
 use records::execution::Execution;
@@ -22,7 +22,7 @@ use records::order::Order;
 use records::symbol_row::SymbolRow;
 use row_store::row::RowStore;
 use std::alloc::Global;
-use std::io::{BufRead, ErrorKind, Write};
+use std::io::{BufRead, Write};
 use std::{fmt, io};
 use store::store::Store;
 
@@ -112,7 +112,7 @@ pub(crate) fn answer_lines<
         }
         answer_line(ledger, count.next(), &line, output)?;
     }
-    Err(ErrorKind::FileTooLarge.into())
+    Err(too_long())
 }
 
 // Says what the ledger says to a line, behind the line's number.

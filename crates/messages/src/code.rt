@@ -1,5 +1,4 @@
-//! Values that a line has as one letter. Each type writes its conversions out: its variants and
-//! letters are its own, and no impl may come from a macro or a derive of the repository's own.
+//! Values that a line has as one letter.
 ghost use Rattle.std.specs.Prelude.{◌≡◌};
 ghost use Rattle.fields.specs.Letters.{ReadAs};
 ghost use Rattle.messages.specs.Codes.{side_letter, trade_side_letter, display_letter, customer_letter, side_letters, trade_side_letters, display_letters, customer_letters};

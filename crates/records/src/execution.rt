@@ -28,7 +28,7 @@ impl Execution {
     };
 }
 
-// Kept by Execution ID. An impl of its own, since all that it says is which field that is.
+// Kept by Execution ID.
 impl Record for Execution {
     ghost key = { λ e. e.id % 2 ^ 64 };
 

@@ -32,7 +32,7 @@ impl Order {
     };
 }
 
-// Kept by Order ID. An impl of its own, since all that it says is which field that is.
+// Kept by Order ID.
 impl Record for Order {
     ghost key = { λ o. o.id % 2 ^ 64 };
 

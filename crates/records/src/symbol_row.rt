@@ -36,7 +36,7 @@ impl SymbolRow {
     }
 }
 
-// Kept by the symbol's number. An impl of its own, since all that it says is which field that is.
+// Kept by the symbol's number.
 impl Record for SymbolRow {
     ghost key = { λ r. r.symbol % 2 ^ 64 };
 

@@ -53,4 +53,5 @@ abbrev pub Told : Result Request Wrong → (words : List (Vec ℕ)) → Result (
 Told (Ok request) words (Ok u) = Unit {0}
 Told (Ok request) words (Err failure) = IsOtherwise failure
 Told (Err wrong) words (Ok u) = ⊥
-Told (Err wrong) words (Err failure) = Complains failure (word_at words wrong.place) wrong.mistake ⊎ IsMemory failure
+Told (Err wrong) words (Err failure) =
+    Complains failure (word_at words wrong.place) wrong.mistake ⊎ IsMemory failure

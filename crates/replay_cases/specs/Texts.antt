@@ -14,11 +14,13 @@ abbrev pub word_at : List (List ℕ) → ℕ → List ℕ
 word_at ws place = unwrap_or (slice_get ws place) []
 
 abbrev pub wrong_text : (word : List ℕ) → Mistake → List ℕ
-wrong_text word mistake = codes "(wrong: " ++ (complaint_text word mistake ++ (codes ")" ++ (10 ∷ [])))
+wrong_text word mistake =
+    codes "(wrong: " ++ (complaint_text word mistake ++ (codes ")" ++ (10 ∷ [])))
 
 -- the usage, or the report of the day
 abbrev pub request_text : (usage day : List ℕ) → Request → List ℕ
-request_text usage day request = cond request.options.shown.help usage (replay_text request.options day)
+request_text usage day request =
+    cond request.options.shown.help usage (replay_text request.options day)
 
 abbrev pub asked_text : (usage day : List ℕ) (ws : List (List ℕ)) → Result Request Wrong → List ℕ
 asked_text usage day ws (Ok request) = request_text usage day request

@@ -1,4 +1,5 @@
-//! Replays the day of standard input by many command lines: over each sort of store, with little room, and with each mistake.
+//! Replays the day of standard input by many command lines: over each sort of store, with little
+//! room, and with each mistake.
 #![tactic(auto)]
 
 mod commands;

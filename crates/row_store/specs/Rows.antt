@@ -17,7 +17,8 @@ from xs p = drop p xs
 
 -- what a call leaves, as the model has it: before it the first n of xs hold records, and after it
 -- the first m of ys
-pub record Left {X : Type 0} (key : X → ℕ) (left : Model X → Model X) (n m : ℕ) (xs ys : List X) : Type 0 where
+pub record Left {X : Type 0} (key : X → ℕ) (left : Model X → Model X) (n m : ℕ)
+    (xs ys : List X) : Type 0 where
   pub leaves : model_of m ys ≡ left (model_of n xs)
   pub still : InOrder key m ys
 

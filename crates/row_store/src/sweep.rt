@@ -5,11 +5,11 @@ ghost use Rattle.row_store.specs.Rows.{InOrder, Left};
 use store::pick::Pick;
 use store::record::Record;
 
-// The rows that stay move down over those that go, by their places: a slice has no `retain` or
-// `extract_if`, and no iterator over it lends a row together with the place that it moves to.
+// The rows that stay move down over those that go, place by place.
 pub(crate) fn sweep_rows<R: Record, P: Pick<R>>(rows: &mut [R], count: &mut usize, pick: &P)
     ensures { InOrder R.Record.key count.old rows.old
-        → Left R.Record.key (sweeping (P.Pick.picked pick.now)) count.old count.new rows.old rows.new }
+        → Left R.Record.key (sweeping (P.Pick.picked pick.now))
+        count.old count.new rows.old rows.new }
 {
     let n = (*count).min(rows.len());
     let mut next = 0;

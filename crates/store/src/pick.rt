@@ -1,8 +1,7 @@
-// A test that picks some of the records.
-//
-// A trait and no closure: contracts name the function `picked` itself, where a closure's `post` would only relate a record to what may be answered for it.
+//! A test that picks some of the records.
 ghost use Rattle.std.specs.Prelude.{◌≡◌, Bool};
 
+/// A test of records, by the function that contracts name.
 pub trait Pick<R> {
     ghost picked: { Self → R → Bool };
 

@@ -38,7 +38,7 @@ pub(crate) fn open<R: BufRead, W: Write>(
         (opening_text (Some opening) count.old.lines)
         (opening_text next count.new.lines)) }
 {
-    // An arm each: a store borrows its memory, which is of another type in each.
+    // A store borrows its memory, which is of another type in each arm.
     match opening.kind {
         Kind::Row => {
             let mut rows = vec![in heap; Order::BLANK; opening.limit as usize]?;

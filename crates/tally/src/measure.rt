@@ -1,10 +1,9 @@
-// What one record gives to a tally.
-//
-// A trait and no closure: what is answered is the function `given` joined over the list in every order, and a closure's `post` is a mere relation.
+//! What one record gives to a tally.
 ghost use Rattle.std.specs.Prelude.{◌≡◌};
 
 use crate::tally::Tally;
 
+/// A measure of records, by the function that contracts name.
 pub trait Measure<R> {
     type Out: Tally;
 
