@@ -10,5 +10,5 @@ pub mod padded;
 pub mod place;
 mod put;
 pub mod reading;
-mod table;
+pub mod table;
 pub mod text;

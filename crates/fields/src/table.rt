@@ -1,19 +1,21 @@
-//! The table of the 256 bytes.
+//! The table of the 256 bytes: which class each is of, and what it is worth as a digit.
 ghost use Rattle.std.specs.Prelude.{◌≡◌};
 ghost use Rattle.fields.specs.Rows.{row_of};
 
 use layout::byte_class::ByteClass::{self, Digit, Letter, Other, Sign, Space};
 
-/// What a byte is: its class, and its worth as a base 36 digit, which is 36 where it is none.
+/// What a byte is.
 #[derive(Clone, Copy)]
-pub(crate) struct Row {
+pub struct Row {
+    /// Digit, letter, sign, space, or not printable.
     pub class: ByteClass,
+    /// 0 to 35; 36 of a byte that is no digit.
     pub worth: u8,
 }
 
-/// The row of a byte. All that is asked about a byte of a field is asked here.
+/// The row of a byte. Whoever reads digits, letters or printable bytes asks here.
 #[inline(always)]
-pub(crate) fn look_up(byte: u8) -> &'static Row
+pub fn look_up(byte: u8) -> &'static Row
     ensures { result.now ≡ row_of byte }
 {
     &ROWS[byte as usize]

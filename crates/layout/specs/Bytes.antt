@@ -1,5 +1,5 @@
 -- The classes of bytes, and what a byte is worth as a base 36 digit.
-use Rattle.std.specs.Prelude.{ℕ, ◌+◌, ◌-◌, Bool, true, false, cond, ◌&&◌, ◌==◌, nat_le, nat_lt}
+use Rattle.std.specs.Prelude.{ℕ, ◌+◌, ◌-◌, Bool, true, false, cond, ◌&&◌, ◌||◌, ◌==◌, nat_le, nat_lt}
 use Rattle.layout.specs.declared.byte_class.ByteClass.{ByteClass}
 use Rattle.layout.specs.declared.byte_class.ByteClass.TheVariants as byte
 use Rattle.layout.specs.declared.class.Class.{Class}
@@ -16,6 +16,10 @@ is_letter x = nat_le 65 x && nat_le x 90
 -- printable, and not a space
 abbrev pub is_graphic : ℕ → Bool
 is_graphic x = nat_le 33 x && nat_le x 126
+
+-- the space too
+abbrev pub is_printable : ℕ → Bool
+is_printable x = x == 32 || is_graphic x
 
 abbrev pub is_of : Class → ℕ → Bool
 is_of Graphic x = is_graphic x

@@ -1,5 +1,6 @@
 -- Where a command line is wrong first.
 use Rattle.std.proofs.Common.{◌≡◌, ℕ, zero, suc, ◌+◌, ◌-◌, ◌<◌, ◌≤◌, List, [], ◌∷◌, ◌++◌, length, take, Ok, Err, Option, Some, None, Result, IfErr, codes, refl, sym, ap, subst, ◌∙◌, arith}
+use Rattle.layout.specs.Bytes.{worth_of}
 use Rattle.layout.specs.Slots.{scan_slot, first_failing}
 use Rattle.options.specs.declared.mistake.Mistake.{Mistake}
 use Rattle.options.specs.declared.mistake.Mistake.TheVariants as mistake
@@ -19,7 +20,7 @@ sample Book = codes "A"
 sample setting = codes "1"
 
 sample-set : (s : Setting) (o : Options) → (p : Options) × (set_to s (sample s) o ≡ Ok p)
-unfolding sample scan_slot first_failing
+unfolding sample worth_of scan_slot first_failing
 sample-set Store o = (_, refl)
 sample-set Orders o = (_, refl)
 sample-set Executions o = (_, refl)

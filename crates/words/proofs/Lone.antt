@@ -1,7 +1,8 @@
 -- Lines of one word.
 use Rattle.std.proofs.Common.{◌≡◌, ℕ, Bool, true, false, cond, ◌&&◌, eqb, List, [], ◌∷◌, None, sym, refl, ap, subst, ⊎_elim}
 use Rattle.std.proofs.lemmas.Bool.{cases_Bool, eqb-true}
-use Rattle.words.specs.Numbers.{is_digit, are_digits, spelt, narrow, number_of, one_of}
+use Rattle.layout.specs.Bytes.{is_digit}
+use Rattle.words.specs.Numbers.{are_digits, spelt, narrow, number_of, one_of}
 use Rattle.words.specs.Words.{onto, words}
 
 -- where there is one word it is the line, and where there are more the line is not all digits

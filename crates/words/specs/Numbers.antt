@@ -1,8 +1,6 @@
 -- Numbers of decimal digits, below 2^64.
-use Rattle.std.specs.Prelude.{ℕ, ◌+◌, ◌-◌, ◌*◌, ◌^◌, Bool, true, cond, ◌&&◌, List, [], ◌∷◌, Some, None, Option, nat_le, nat_lt, option_map}
-
-abbrev pub is_digit : ℕ → Bool
-is_digit b = nat_le 48 b && nat_le b 57
+use Rattle.std.specs.Prelude.{ℕ, ◌+◌, ◌*◌, ◌^◌, Bool, true, cond, ◌&&◌, List, [], ◌∷◌, Some, None, Option, nat_lt, option_map}
+use Rattle.layout.specs.Bytes.{is_digit, worth_of}
 
 abbrev pub are_digits : List ℕ → Bool
 are_digits [] = true
@@ -11,7 +9,7 @@ are_digits (b ∷ bs) = is_digit b && are_digits bs
 -- the number that digits spell behind the number v
 abbrev pub spelt : ℕ → List ℕ → ℕ
 spelt v [] = v
-spelt v (b ∷ bs) = spelt (v * 10 + (b - 48)) bs
+spelt v (b ∷ bs) = spelt (v * 10 + worth_of b) bs
 
 -- a number, if it is below 2^64
 abbrev pub narrow : ℕ → Option ℕ
@@ -28,7 +26,7 @@ number_of (b ∷ bs) = decimal 0 (b ∷ bs)
 
 -- one more digit behind a number
 abbrev pub pushed_on : ℕ → ℕ → Option ℕ
-pushed_on v b = cond (is_digit b) (narrow (v * 10 + (b - 48))) None
+pushed_on v b = cond (is_digit b) (narrow (v * 10 + worth_of b)) None
 
 -- one number
 abbrev pub one_of : List (List ℕ) → Option ℕ

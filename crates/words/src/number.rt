@@ -1,9 +1,10 @@
-// Numbers of decimal digits.
+//! Numbers of decimal digits.
 ghost use Rattle.std.specs.Prelude.{◌≡◌, Some, None, MatchOption};
 ghost use Rattle.words.specs.Numbers.{number_of, decimal, pushed_on, one_of, first_of};
 ghost use Rattle.words.specs.Words.{words, words_after};
 
 use crate::cut::{after_space, cut};
+use fields::table::look_up;
 
 // The number behind a space, if there is one and nothing else.
 pub fn one_number(rest: &[u8]) -> Option<u64>
@@ -49,11 +50,13 @@ fn digits(bytes: &[u8]) -> Option<u64>
 }
 
 // A number with one more digit behind it.
+#[tactic(auto, unfolding(layout::specs::Bytes::worth_of))]
 fn pushed(value: u64, byte: u8) -> Option<u64>
     ensures { result ≡ pushed_on value byte }
 {
-    if !byte.is_ascii_digit() {
+    let digit = u64::from(look_up(byte).worth);
+    if digit >= 10 {
         return None;
     }
-    value.checked_mul(10)?.checked_add((byte - b'0') as u64)
+    value.checked_mul(10)?.checked_add(digit)
 }

@@ -1,7 +1,10 @@
 // Words as a complaint shows them.
-ghost use Rattle.std.specs.Prelude.{Some};
+ghost use Rattle.std.specs.Prelude.{◌≡◌, Some};
+ghost use Rattle.layout.specs.Bytes.{is_printable};
 ghost use Rattle.words.specs.Quotes.{byte_text, bytes_text, quoted_text};
 
+use fields::table::look_up;
+use layout::byte_class::ByteClass;
 use std::fmt;
 
 // Bytes between quotation marks: printable ASCII on one line, whatever they are.
@@ -43,11 +46,19 @@ impl fmt::Display for ByteForm {
         match byte {
             b'"' => f.write_str("\\\""),
             b'\\' => f.write_str("\\\\"),
-            b' '..=b'~' => f.write_char(char::from(byte)),
+            _ if shows(byte) => f.write_char(char::from(byte)),
             _ => {
                 let (high, low) = (byte / 16, byte % 16);
                 write!(f, "\\x{high:x}{low:x}")
             }
         }
     }
+}
+
+// Whether the byte is printable.
+#[tactic(auto, unfolding(layout::specs::Bytes::class_of))]
+fn shows(byte: u8) -> bool
+    ensures { result ≡ is_printable byte }
+{
+    !matches!(look_up(byte).class, ByteClass::Other)
 }
