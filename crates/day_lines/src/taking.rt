@@ -10,9 +10,12 @@ ghost use Rattle.day_lines.specs.Seen.{IsSeen, one_seen};
 ghost use Rattle.day_lines.specs.Takings.{Taken, PieceTaken, begun_line};
 ghost use Rattle.day_lines.specs.Texts.{answer_line, answers_text};
 
+#[cfg(test)]
+mod tests;
+
 use crate::seen::Seen;
 use capture::buffer::LineBuffer;
-use capture::input::{is_interrupted, too_long};
+use capture::input::{fill, too_long};
 use capture::split::split_line;
 use day_forms::answer::Answered;
 use day_forms::numbered::Numbered;
@@ -35,8 +38,10 @@ const NO_ANSWER: Result<Outcome, LedgerFault> = Ok(Outcome {
 /// Puts each line of the input to the ledger, prints its number and what it is answered if that is
 /// to be shown, and answers what became of all.
 ///
-/// A read that was interrupted is made again. An `Err` is the reader's or the writer's, or
-/// `FileTooLarge` after 2^64 - 1 reads.
+/// A read that was interrupted is made again. An `Err` is as that of `capture::input::fill`, the
+/// writer's, or `FileTooLarge` after 2^64 - 1 pieces. It leaves the ledger as it is after the lines
+/// put so far: a line whose answer is not printed is put all the same, and one of which only the
+/// beginning was read is not, nor does that come again.
 pub fn take_lines<R: BufRead, W: Write, O: Store<Order>, E: Store<Execution>, S: Store<SymbolRow>>(
     ledger: &mut Ledger<O, E, S>,
     shown: bool,
@@ -45,7 +50,7 @@ pub fn take_lines<R: BufRead, W: Write, O: Store<Order>, E: Store<Execution>, S:
 ) -> io::Result<Seen>
     ensures says { OnOk result (IfSome (R.remaining input.old) (λ bytes.
         Appends (W.contents output.old) (W.contents output.new)
-            (answers_text shown 0 (lines_of bytes) ledger.old))) }
+        (answers_text shown 0 (lines_of bytes) ledger.old))) }
     ensures leaves { OnOk result (IfSome (R.remaining input.old) (λ bytes.
         ledger.new ≡ day_after (lines_of bytes) ledger.old)) }
     ensures seen { IfOk result (λ seen. IfSome (R.remaining input.old) (λ bytes.
@@ -53,14 +58,8 @@ pub fn take_lines<R: BufRead, W: Write, O: Store<Order>, E: Store<Execution>, S:
 {
     let mut seen = Seen::new();
     let mut begun = LineBuffer::new();
-    // Nothing says that the input ends, and no handle to wait without end is used here: so the
-    // turns are counted.
     for _ in 0..u64::MAX {
-        let piece = match input.fill_buf() {
-            Ok(piece) => piece,
-            Err(error) if is_interrupted(&error) => continue,
-            Err(error) => return Err(error),
-        };
+        let piece = fill(input)?;
         let count = piece.len();
         if count == 0 {
             take_last(ledger, shown, &mut begun, &mut seen, output)?;

@@ -11,7 +11,7 @@ pub returns-then-count-eq0-clause-line : goal.returns-then-count-eq0-clause-line
 returns-then-count-eq0-clause-line g c =
     let here = g.R.Read.remaining c.loop.input in
     known-weaker (g.R.Read.remaining c.args.input.now) _ _ (λ xs inv.
-    let none : inv.0 ≡ [] = known-at here inv.0 _ inv.1 c.in-Ok.ensures.end c.if-count-eq0.true in
+    let none : inv.0 ≡ [] = known-at here inv.0 _ inv.1 c.in_ok-bytes.ensures.end c.if-count-eq0.true in
     ap (λ t. if_there (not t) c.loop.line) c.is_empty.ensures ∙ ended c.loop.line ∙ ap (ahead (held c.loop.line)) (sym none) ∙ inv.2)
     (begun-known (g.R.Read.remaining c.args.input.now) here (held c.loop.line) c.loop.invariant)
 
@@ -22,16 +22,16 @@ pub returns-then-count-eq0-clause-rest : goal.returns-then-count-eq0-clause-rest
 returns-then-count-eq0-clause-rest g c =
     let here = g.R.Read.remaining c.loop.input in
     known-weaker (g.R.Read.remaining c.args.input.now) _ _ (λ xs inv.
-    let none : inv.0 ≡ [] = known-at here inv.0 _ inv.1 c.in-Ok.ensures.end c.if-count-eq0.true in
-    kept-at here _ inv.0 inv.1 c.fill_buf.follows.holds-at-none.0 ∙ ap Some (none ∙ ap (drop_through 10) (sym none) ∙ inv.3))
+    let none : inv.0 ≡ [] = known-at here inv.0 _ inv.1 c.in_ok-bytes.ensures.end c.if-count-eq0.true in
+    kept-at here _ inv.0 inv.1 c.fill.follows.holds-at-none.0 ∙ ap Some (none ∙ ap (drop_through 10) (sym none) ∙ inv.3))
     (begun-known (g.R.Read.remaining c.args.input.now) here (held c.loop.line) c.loop.invariant)
 
 pub returns-in-Some-clause-line : goal.returns-in-Some-clause-line
 returns-in-Some-clause-line g c =
     let here = g.R.Read.remaining c.loop.input in
     known-weaker (g.R.Read.remaining c.args.input.now) _ _ (λ xs inv.
-    let shown = known-at here inv.0 _ inv.1 c.in-Ok.ensures.front in
-    let there = ends-there (held c.loop.line) inv.0 c.in-Ok.bytes.now (held c.gather.new.line) c.in-Some.used shown (sym c.in-Some.is ∙ c.gather.ensures.end) c.gather.ensures.line in
+    let shown = known-at here inv.0 _ inv.1 c.in_ok-bytes.ensures.front in
+    let there = ends-there (held c.loop.line) inv.0 c.in_ok-bytes.bytes.now (held c.gather.new.line) c.in-Some.used shown (sym c.in-Some.is ∙ c.gather.ensures.end) c.gather.ensures.line in
     there.0 ∙ inv.2)
     (begun-known (g.R.Read.remaining c.args.input.now) here (held c.loop.line) c.loop.invariant)
 
@@ -41,26 +41,27 @@ returns-in-Some-clause-lines g c = known-weaker (g.R.Read.remaining c.args.input
 pub returns-in-Some-clause-rest : goal.returns-in-Some-clause-rest
 returns-in-Some-clause-rest g c =
     let here = g.R.Read.remaining c.loop.input in
-    let rested = c.fill_buf.follows.lender-at-none in
-    let filled = subst (FillKeeps here (g.R.Read.remaining rested) (g.R.BufRead.consumable_len rested)) c.in-Ok.is c.fill_buf.follows.holds-at-none in
+    let rested = c.fill.follows.lender-at-none in
+    let filled = subst (FillKeeps here (g.R.Read.remaining rested) (g.R.BufRead.consumable_len rested)) c.in_ok-bytes.was c.fill.follows.holds-at-none in
     known-weaker (g.R.Read.remaining c.args.input.now) _ _ (λ xs inv.
-    let shown = known-at here inv.0 _ inv.1 c.in-Ok.ensures.front in
-    let there = ends-there (held c.loop.line) inv.0 c.in-Ok.bytes.now (held c.gather.new.line) c.in-Some.used shown (sym c.in-Some.is ∙ c.gather.ensures.end) c.gather.ensures.line in
+    let shown = known-at here inv.0 _ inv.1 c.in_ok-bytes.ensures.front in
+    let there = ends-there (held c.loop.line) inv.0 c.in_ok-bytes.bytes.now (held c.gather.new.line) c.in-Some.used shown (sym c.in-Some.is ∙ c.gather.ensures.end) c.gather.ensures.line in
     used-at here _ _ _ inv.0 _ c.in-Some.used inv.1 filled.0 filled.1 there.2 c.consume.ensures.bytes ∙ ap Some (there.1 ∙ inv.3))
     (begun-known (g.R.Read.remaining c.args.input.now) here (held c.loop.line) c.loop.invariant)
 
 pub loop-preserved : goal.loop-preserved
 loop-preserved g c =
     let here = g.R.Read.remaining c.loop.input in
-    let piece = c.in-Ok.bytes.now in
-    let rested = c.fill_buf.follows.lender-at-none in
-    let filled = subst (FillKeeps here (g.R.Read.remaining rested) (g.R.BufRead.consumable_len rested)) c.in-Ok.is c.fill_buf.follows.holds-at-none in
-    let used = used-whole here _ _ _ piece c.in-Ok.ensures.front filled.0 filled.1 c.consume-in-loop.ensures.bytes in
+    let piece = c.in_ok-bytes.bytes.now in
+    let rested = c.fill.follows.lender-at-none in
+    let filled = subst (FillKeeps here (g.R.Read.remaining rested) (g.R.BufRead.consumable_len rested)) c.in_ok-bytes.was c.fill.follows.holds-at-none in
+    let used = used-whole here _ _ _ piece c.in_ok-bytes.ensures.front filled.0 filled.1 c.consume-in-loop.ensures.bytes in
     begun-on (g.R.Read.remaining c.args.input.now) here _ (held c.loop.line) piece (held c.gather.new.line) c.loop.invariant used (search rules) c.gather.ensures.line
 
-pub returns-in-Err-2-clause-begun : goal.returns-in-Err-2-clause-begun
-returns-in-Err-2-clause-begun g c =
-    begun-kept (g.R.Read.remaining c.args.input.now) (g.R.Read.remaining c.loop.input) _ (held c.loop.line) c.loop.invariant c.fill_buf.follows.holds-at-none.0
+pub returns-in_err-bytes-clause-begun : goal.returns-in_err-bytes-clause-begun
+returns-in_err-bytes-clause-begun g c =
+    let left = begun-kept (g.R.Read.remaining c.args.input.now) (g.R.Read.remaining c.loop.input) _ (held c.loop.line) c.loop.invariant c.fill.follows.holds-at-none.0 in
+    search rules
 
 pub returns-clause-begun : goal.returns-clause-begun
 returns-clause-begun g c = c.loop.invariant

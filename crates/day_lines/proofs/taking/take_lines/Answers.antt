@@ -18,13 +18,13 @@ loop-init g c =
 pub loop-preserved : goal.loop-preserved
 loop-preserved g c =
     let here = g.R.Read.remaining c.loop.input in
-    let piece = c.in-Ok.piece.now in
-    let rested = c.fill_buf.follows.lender-at-none in
-    let filled = subst (FillKeeps here (g.R.Read.remaining rested) (g.R.BufRead.consumable_len rested)) c.in-Ok.is c.fill_buf.follows.holds-at-none in
+    let piece = c.in_ok-piece.piece.now in
+    let rested = c.fill.follows.lender-at-none in
+    let filled = subst (FillKeeps here (g.R.Read.remaining rested) (g.R.BufRead.consumable_len rested)) c.in_ok-piece.was c.fill.follows.holds-at-none in
     known-weaker (g.R.Read.remaining c.args.input.now) _ _ (λ bytes p.
     putting_on c.args.shown here (g.W.Write.contents c.args.output.now) (g.W.Write.contents c.loop.output) bytes (held c.loop.begun) c.loop.seen c.args.ledger.now c.loop.ledger p
     (g.R.Read.remaining c.consume.new.self) (g.W.Write.contents c.take_piece.new.output) piece (held c.take_piece.new.begun) c.take_piece.new.seen c.take_piece.new.ledger
-    (known-at here p.rest _ p.left c.in-Ok.ensures.front)
+    (known-at here p.rest _ p.left c.in_ok-piece.ensures.front)
     (used-at here _ _ _ p.rest (length piece) (length piece) p.left filled.0 filled.1 (le_refl (length piece)) c.consume.ensures.bytes)
     c.in_ok-take_piece.ensures)
     c.loop.invariant
@@ -36,7 +36,7 @@ all-taken g c =
     known-weaker (g.R.Read.remaining c.args.input.now) _ _ (λ bytes p.
     putting_ends c.args.shown here (g.W.Write.contents c.args.output.now) (g.W.Write.contents c.loop.output) bytes (held c.loop.begun) c.loop.seen c.args.ledger.now c.loop.ledger p
     (g.W.Write.contents c.take_last.new.output) c.take_last.new.seen c.take_last.new.ledger
-    (known-at here p.rest _ p.left c.in-Ok.ensures.end c.if-count-eq0.true) (begun_held c.loop.begun p.unended) c.in_ok-take_last.ensures)
+    (known-at here p.rest _ p.left c.in_ok-piece.ensures.end c.if-count-eq0.true) (begun_held c.loop.begun p.unended) c.in_ok-take_last.ensures)
     c.loop.invariant
 
 pub returns-then-count-eq0-clause-says : goal.returns-then-count-eq0-clause-says
