@@ -1,3 +1,4 @@
 mod First
 mod Last
 mod Onward
+mod Steps

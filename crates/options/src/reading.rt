@@ -33,11 +33,12 @@ const DEFAULTS: Options = Options {
 };
 
 /// What the words of a command line, without the program's own, ask for, or the first mistake in
-/// them. The last of two settings of one option is the one that counts.
+/// them, its kind and its place. The last of two settings of one option is the one that counts, a
+/// flag is set just where its word stands, and the file is the one word that names one.
 pub fn read(words: &[&[u8]]) -> Result<Request, Wrong>
     ensures value { result ≡ request_of (map (λ word. word.now) words.now) }
     ensures last { IfOk result (λ request.
-        HasLast (map (λ word. word.now) words.now) request.options) }
+        HasLast (map (λ word. word.now) words.now) request) }
     ensures first { IfErr result (λ wrong. IsFirstMistake (map (λ word. word.now) words.now) wrong) }
 {
     read_words(words)

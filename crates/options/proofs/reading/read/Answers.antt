@@ -1,4 +1,4 @@
-use Rattle.std.proofs.Common.{map, rules}
+use Rattle.std.proofs.Common.{map}
 use Rattle.options.proofs.First.{is_first}
 use Rattle.options.proofs.Last.{has_last}
 use Rattle.options.proofs.reading.read.Goals as goal
