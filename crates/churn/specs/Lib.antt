@@ -1,4 +1,6 @@
 pub mod Arguments
 pub mod Complaints
+pub mod Counts
+pub mod Loads
 pub mod Names
 pub mod Times
