@@ -1,5 +1,5 @@
 -- The orders of the loads, and what is counted of adds and removes.
-use Rattle.std.specs.Prelude.{ℕ, zero, suc, ◌+◌, ◌*◌, ◌%◌, ◌^◌, ◌==◌, cond, List, ◌++◌, Some, None, Ok, Err, Option, Result, bit_and, codes, decimal, slice_set}
+use Rattle.std.specs.Prelude.{ℕ, zero, suc, ◌+◌, ◌*◌, ◌%◌, ◌^◌, ◌==◌, cond, List, [], ◌∷◌, ◌++◌, Some, None, Ok, Err, Option, Result, bit_and, codes, decimal}
 use Rattle.messages.specs.declared.code.Display.{Display}
 use Rattle.messages.specs.declared.code.Display.TheVariants.{Quoted, Unquoted}
 use Rattle.messages.specs.declared.code.Side.{Side}
@@ -40,6 +40,19 @@ mixed sum o =
     + display_number o.display)
     % 2 ^ 64
 
+abbrev pub none_counted : Counts
+none_counted = record {
+  added = 0;
+  refused = 0;
+  removed = 0;
+  missed = 0;
+  sum = 0;
+  met = 0;
+  swept = 0;
+  kept = 0;
+  left = 0;
+}
+
 -- one add more, by what the store answers to it
 abbrev pub insert_counted : Result (Unit {0}) InsertRefusal → Counts → Counts
 insert_counted (Ok _) c = record c { added = next_to c.added }
@@ -75,16 +88,16 @@ with_removed id p = record p {
   store = removing order_key id p.store;
 }
 
--- with the next ID added, which lives at a place
-unfoldable pub one_filled : (place : ℕ) → Progress → Progress
-one_filled place p =
+-- with the next ID added, which lives behind the others
+unfoldable pub one_filled : Progress → Progress
+one_filled p =
     with_added (next_id p.feed)
-    (record p { feed = id_taken p.feed; live = slice_set p.live place (next_id p.feed) })
+    (record p { feed = id_taken p.feed; live = p.live ++ (next_id p.feed ∷ []) })
 
--- so many places are filled, from the first on
-abbrev pub filled : (places : ℕ) → Progress → Progress
+-- so many are added
+abbrev pub filled : (count : ℕ) → Progress → Progress
 filled zero p = p
-filled (suc n) p = one_filled n (filled n p)
+filled (suc n) p = one_filled (filled n p)
 
 -- with an ID in the place of another among those that live, that other removed, and the ID added
 abbrev pub with_exchanged : (id : ℕ) → Progress → Progress
@@ -125,5 +138,5 @@ walked_text c =
     ++ (decimal c.kept ++ (codes ") (left " ++ (decimal c.left ++ codes ")")))))))
 
 -- how counts are shown
-abbrev pub counts_text : Counts → List ℕ
+unfoldable pub counts_text : Counts → List ℕ
 counts_text c = called_text c ++ (codes " " ++ walked_text c)

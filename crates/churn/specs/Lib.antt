@@ -3,4 +3,5 @@ pub mod Complaints
 pub mod Counts
 pub mod Loads
 pub mod Names
+pub mod Runs
 pub mod Times

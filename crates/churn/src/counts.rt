@@ -1,5 +1,5 @@
 //! Adds and removes through the store's calls, and what came of them.
-ghost use Rattle.std.specs.Prelude.{◌≡◌, ℕ, List, Some, length, slice_set};
+ghost use Rattle.std.specs.Prelude.{◌≡◌, ℕ, List, [], ◌∷◌, ◌++◌, Some, length};
 ghost use Rattle.store.specs.Lists.{lookup};
 ghost use Rattle.store.specs.Models.{insert_says, inserted, removing};
 ghost use Rattle.records.specs.Keys.{order_key};
@@ -34,7 +34,7 @@ impl Counts {
         ensures leaves { S.Store.ready store.old
             → come_to self.new feed.new live.new (S.Store.model store.new)
             ≡ filled (length live.old)
-            (come_to self.old feed.old live.old (S.Store.model store.old)) }
+            (come_to self.old feed.old [] (S.Store.model store.old)) }
         ensures still { S.Store.ready store.old → S.Store.ready store.new }
     {
         for place in live.iter_mut() {
@@ -63,9 +63,9 @@ impl Counts {
     // Adds the order of the next ID, and answers the ID.
     #[tactic(auto, unfolding(crate::specs::Counts::one_filled))]
     fn add_next<S: Store<Order>>(&mut self, store: &mut S, feed: &mut Feed) -> u64
-        ensures leaves { (place : ℕ) (live : List ℕ) → S.Store.ready store.old
-            → come_to self.new feed.new (slice_set live place result) (S.Store.model store.new)
-            ≡ one_filled place (come_to self.old feed.old live (S.Store.model store.old)) }
+        ensures leaves { (live : List ℕ) → S.Store.ready store.old
+            → come_to self.new feed.new (live ++ (result ∷ [])) (S.Store.model store.new)
+            ≡ one_filled (come_to self.old feed.old live (S.Store.model store.old)) }
         ensures still { S.Store.ready store.old → S.Store.ready store.new }
     {
         let id = feed.next_id();
@@ -121,6 +121,7 @@ impl Counts {
     }
 }
 
+#[tactic(auto, unfolding(crate::specs::Counts::counts_text))]
 impl fmt::Display for Counts {
     ghost output = { λ counts. Some (counts_text counts) };
 
