@@ -1,0 +1,2 @@
+mod Churning
+mod Walking

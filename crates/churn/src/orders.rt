@@ -1,9 +1,14 @@
-// Orders for the loads, and a sum over what was removed.
+//! Orders for the loads, and a sum over what was removed.
+ghost use Rattle.std.specs.Prelude.{◌≡◌};
+ghost use Rattle.churn.specs.Counts.{mixed, order_of};
+
 use messages::code::{Display, Side};
 use records::order::Order;
 
-// An order whose every field follows from its ID.
-pub fn order_of(id: u64) -> Order {
+/// An order whose every field follows from its ID.
+pub fn order_of(id: u64) -> Order
+    ensures { result ≡ order_of id }
+{
     Order {
         id,
         symbol: id & 0x1fff,
@@ -18,8 +23,14 @@ pub fn order_of(id: u64) -> Order {
     }
 }
 
-// The sum with one order more. The two enums get numbers of the sum's own: by `as` these would hang on the order of another crate's variants.
-pub fn mixed(sum: u64, order: &Order) -> u64 {
+/// The sum with one order more, in 64 bits.
+///
+/// The two enums get numbers of the sum's own: by `as` these would hang on the order of another
+/// crate's variants.
+#[tactic(auto, unfolding(crate::specs::Counts::mixed))]
+pub fn mixed(sum: u64, order: &Order) -> u64
+    ensures { result ≡ mixed sum order.now }
+{
     let side = match order.side {
         Side::Buy => 1,
         Side::Sell => 2,

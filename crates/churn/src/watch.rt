@@ -1,11 +1,13 @@
-// How long the parts of a load take.
-ghost use Rattle.std.specs.Prelude.{Some};
-ghost use Rattle.churn.specs.Times.{took_text};
+//! How long the parts of a load take.
+ghost use Rattle.std.specs.Prelude.{◌≡◌, ℕ, false, true, Some, IfOk, OnOk};
+ghost use Rattle.std.specs.Io.KnownBytes.{Appends};
+ghost use Rattle.churn.specs.Times.{is_timed, stopped, took_line, took_text};
 
 use std::io::Write;
 use std::time::Instant;
 use std::{fmt, io};
 
+/// Tells how long parts take, where that is asked for; else it does nothing.
 #[derive(Clone, Copy)]
 pub struct Watch {
     // where the times are asked for
@@ -13,19 +15,31 @@ pub struct Watch {
 }
 
 impl Watch {
-    pub fn new(rt: &HostRuntime, asked: bool) -> io::Result<Watch> {
+    /// Starts where times are asked for. An `Err` is the clock's, and comes only there.
+    pub fn new(rt: &HostRuntime, asked: bool) -> io::Result<Watch>
+        ensures says { IfOk result (λ watch. is_timed watch ≡ asked) }
+        ensures untimed { asked ≡ false → result ≡ Ok stopped }
+    {
         let start = if asked { Some(Instant::now(rt)?) } else { None };
         Ok(Watch { start })
     }
 
-    // Prints how long the calls since the last one took, and starts anew.
+    /// Prints how long the calls since the last lap took, and starts anew. Where no times are asked
+    /// for, it writes nothing. An `Err` is the clock's or the writer's.
     pub fn lap<W: Write>(
         &mut self,
         rt: &HostRuntime,
         output: &mut W,
         part: &str,
         calls: u64,
-    ) -> io::Result<()> {
+    ) -> io::Result<()>
+        ensures still { is_timed self.new ≡ is_timed self.old }
+        ensures untimed { is_timed self.old ≡ false → result ≡ Ok tt }
+        ensures silent { is_timed self.old ≡ false → output.new ≡ output.old }
+        ensures told { is_timed self.old ≡ true → OnOk result ((nanos : ℕ)
+            × Appends (W.contents output.old) (W.contents output.new)
+            (took_line part.now calls nanos)) }
+    {
         let Some(start) = self.start else {
             return Ok(());
         };
