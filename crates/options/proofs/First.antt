@@ -1,5 +1,5 @@
 -- Where a command line is wrong first.
-use Rattle.std.proofs.Common.{◌≡◌, ℕ, zero, suc, ◌+◌, ◌-◌, ◌<◌, ◌≤◌, List, [], ◌∷◌, ◌++◌, length, take, drop, Ok, Err, Option, Some, None, Result, IfErr, option_to_list, codes, refl, sym, ap, subst, subst₂, ◌∙◌, arith, lit≤}
+use Rattle.std.proofs.Common.{◌≡◌, ℕ, suc, ◌+◌, ◌<◌, ◌≤◌, List, [], ◌∷◌, ◌++◌, length, take, drop, Ok, Err, Option, Some, None, Result, IfErr, option_to_list, codes, refl, sym, ap, subst, subst₂, ◌∙◌, arith, lit≤}
 use Rattle.layout.specs.Bytes.{worth_of}
 use Rattle.layout.specs.Slots.{scan_slot, first_failing}
 use Rattle.words.specs.Kinds.{kind_meant}
