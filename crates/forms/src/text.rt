@@ -1,9 +1,10 @@
 //! The text of a field alone, without its word: the digits of an ID, the letters of a symbol.
-ghost use Rattle.std.specs.Prelude.{◌≡◌, ℕ, ◌≤◌, List, replicate, Some, IsErr, MatchResult};
+ghost use Rattle.std.specs.Prelude.{◌≡◌, ℕ, ◌≤◌, List, replicate, Some, IsErr, IsTrue};
+ghost use Rattle.std.specs.Prelude.{Decides, MatchResult};
 ghost use Rattle.std.specs.Fmt.{WritesOnOk};
 ghost use Rattle.std.specs.Str.{IsUtf8};
 ghost use Rattle.layout.specs.Slots.{Spells, spell, over};
-ghost use Rattle.messages.specs.Layouts.{long_symbol};
+ghost use Rattle.messages.specs.Layouts.{identifier, long_symbol};
 ghost use Rattle.forms.specs.Texts.{without_spaces, id_text, symbol_text};
 
 use crate::trim::trimmed;
@@ -17,35 +18,71 @@ use std::str::from_utf8;
 #[derive(Clone, Copy, Drop)]
 pub struct IdText(pub u64);
 
+impl IdText {
+    /// Whether its bytes are a text, so that it can be shown: those of every number are.
+    pub fn is_legible(self) -> bool
+        ensures exact { Decides result (IsUtf8 (id_text self.0)) }
+        ensures ids { IsTrue result }
+    {
+        is_text(&self.digits())
+    }
+
+    fn digits(self) -> [u8; 12]
+        ensures { result ≡ over 0 (spell identifier self.0) (replicate 12 32) }
+    {
+        spelled::<_, 12>(ID, self.0)
+    }
+}
+
 impl fmt::Display for IdText {
     ghost output = { λ t. Some (id_text t.0) };
 
     fn fmt<W: fmt::Write>(&self, f: &mut fmt::Formatter<W>) -> fmt::Result
         ensures writes { WritesOnOk W.write_str_gives f.old result (id_text self.now.0) f.new }
-        ensures legible { IsUtf8 (id_text self.now.0) }
     {
-        match legible(&spelled::<_, 12>(ID, self.0)) {
+        match legible(&self.digits()) {
             Ok(text) => f.write_str(text),
             Err(_) => unreachable!(),
         }
     }
 }
 
-/// A symbol without the spaces at its end. Every symbol that some line gives has such a text; of a
-/// number whose bytes are no text, an `Err`.
+/// A symbol without the spaces at its end. Of a number whose bytes are no text, which `is_legible`
+/// tells, the answer is an `Err`; every symbol that some line gives has one.
 #[derive(Clone, Copy, Drop)]
 pub struct SymbolText(pub u64);
+
+impl SymbolText {
+    /// Whether its bytes are a text, so that it can be shown: those of every symbol that some line
+    /// gives are.
+    pub fn is_legible(self) -> bool
+        ensures exact { Decides result (IsUtf8 (symbol_text self.0)) }
+        ensures symbols { (p : List ℕ) → Spells long_symbol p self.0 → IsTrue result }
+    {
+        is_text(&self.letters())
+    }
+
+    fn letters(self) -> [u8; 8]
+        ensures { result ≡ over 0 (spell long_symbol self.0) (replicate 8 32) }
+    {
+        spelled::<Text, 8>(LONG_SYMBOL, self.0)
+    }
+}
 
 impl fmt::Display for SymbolText {
     ghost output = { λ t. Some (symbol_text t.0) };
 
     fn fmt<W: fmt::Write>(&self, f: &mut fmt::Formatter<W>) -> fmt::Result
         ensures writes { WritesOnOk W.write_str_gives f.old result (symbol_text self.now.0) f.new }
-        ensures legible { (p : List ℕ) → Spells long_symbol p self.now.0
-            → IsUtf8 (symbol_text self.now.0) }
         ensures refused { ¬ (IsUtf8 (symbol_text self.now.0)) → IsErr result }
     {
-        f.write_str(legible(&spelled::<Text, 8>(LONG_SYMBOL, self.0))?)
+        if !self.is_legible() {
+            return Err(fmt::Error);
+        }
+        match legible(&self.letters()) {
+            Ok(text) => f.write_str(text),
+            Err(_) => unreachable!(),
+        }
     }
 }
 
@@ -58,6 +95,13 @@ pub(crate) fn spelled<F: Field<Value = u64>, const SIZE: usize>(field: F, value:
     let mut text = [b' '; SIZE];
     field.put(&mut text, 0, value);
     text
+}
+
+// Whether a field's bytes are a text, without the spaces at their end.
+fn is_text(bytes: &[u8]) -> bool
+    ensures { Decides result (IsUtf8 (without_spaces bytes.now)) }
+{
+    legible(bytes).is_ok()
 }
 
 // The text of a field's bytes, without the spaces at their end; an `Err` just where they are none.
