@@ -1,4 +1,5 @@
-// Words that are wrong, and those of every word that is right; one load on one store, and where no order lives.
+//! Words that are wrong, and those of every word that is right; one load on one store, and where
+//! no order lives.
 use crate::arguments::{Arguments, Sizes, read};
 use crate::feed::Feed;
 use crate::load::Load;
