@@ -30,7 +30,8 @@ impl fmt::Display for Mistake<'_> {
             Mistake::Count => f.write_str("the words are STORE LOAD SLOTS LIVE PAIRS [time]"),
             Mistake::Store(word) => write!(
                 f,
-                "a store is row, hashed, spread, front-row, front-hashed, front-spread or all, not {}",
+                "a store is row, hashed, spread, front-row, front-hashed, front-spread or all, \
+                 not {}",
                 Quoted(word)
             ),
             Mistake::Load(word) => write!(
