@@ -1,23 +1,22 @@
 -- Parts of a load come to the whole, and none of it changes the store's limit.
-use Rattle.std.proofs.Common.{◌≡◌, ℕ, zero, suc, ◌+◌, ◌-◌, ◌≤◌, Bool, true, false, cond, [], length, nat_le, refl, ap, ◌∙◌, arith}
+use Rattle.std.proofs.Common.{◌≡◌, ℕ, zero, suc, ◌+◌, ◌-◌, ◌≤◌, Bool, true, false, cond, List, [], Option, length, nat_le, refl, ap, subst, ◌∙◌, arith}
+use Rattle.std.specs.Io.KnownBytes.{Appends}
 use Rattle.records.specs.declared.order.Order.{Order}
 use Rattle.records.specs.Keys.{order_key}
 use Rattle.store.specs.Lists.{holds, placed}
 use Rattle.store.specs.Models.{Model, holding, inserted, removing}
+use Rattle.churn.specs.declared.counts.Counts.{Counts}
+use Rattle.churn.specs.declared.feed.Feed.{Feed}
 use Rattle.churn.specs.declared.load.Load.{Load}
 use Rattle.churn.specs.Counts.{Progress, churned, come_to, filled, none_counted, one_churned, one_filled, order_of}
 use Rattle.churn.specs.Loads.{begun, dead_id, id_taken, next_id}
-use Rattle.churn.specs.Runs.{load_counts, load_run, none_held, with_walks}
+use Rattle.churn.specs.Runs.{load_churned, load_counts, load_filled, none_held, with_walks}
 
 churned-sum : (a b : ℕ) (p : Progress) → churned a (churned b p) ≡ churned (a + b) p
 churned-sum zero b p = ap (λ n. churned n p) (let e : b ≡ 0 + b = omega arith in e)
 churned-sum (suc a) b p =
     ap one_churned (churned-sum a b p)
     ∙ ap (λ n. churned n p) (let e : suc (a + b) ≡ suc a + b = omega arith in e)
-
--- before the first part
-pub churn_starts : (pairs : ℕ) (p : Progress) → p ≡ churned (pairs - pairs) p
-churn_starts pairs p = ap (λ n. churned n p) (let e : 0 ≡ pairs - pairs = omega arith in e)
 
 -- a part more
 pub churn_goes_on : (pairs left part : ℕ) (p q r : Progress) → left ≤ pairs → part ≤ left
@@ -57,12 +56,19 @@ pub churned-limit : (n : ℕ) (p : Progress) → (churned n p).store.limit ≡ p
 churned-limit zero p = refl
 churned-limit (suc n) p = one_churned-limit (churned n p) ∙ churned-limit n p
 
--- all parts, and the walks behind them
+-- a load that begins with nothing
+pub filled_from : (load : Load) (limit live : ℕ) (counts : Counts) (feed : Feed) (m : Model Order)
+    (p : Progress) → counts ≡ none_counted → feed ≡ begun load → m ≡ none_held limit
+    → p ≡ filled live (come_to counts feed [] m) → p ≡ load_filled load limit live
+filled_from load limit live counts feed m p none new empty fills =
+    fills ∙ (λ i. filled live (come_to (none i) (new i) [] (empty i)))
+
+-- all its parts, and the walks behind them
 module _ (load : Load) (limit live pairs left : ℕ) (start end : Progress)
-    (fills : start ≡ filled live (come_to none_counted (begun load) [] (none_held limit)))
+    (fills : start ≡ load_filled load limit live)
     (churns : end ≡ churned (pairs - left) start) (none : left ≤ 0) where
-  ends : end ≡ load_run load limit live pairs
-  unfolding load_run
+  ends : end ≡ load_churned load limit live pairs
+  unfolding load_churned
   ends =
       churns ∙ ap (λ n. churned n start) (let e : pairs - left ≡ pairs = omega arith in e)
       ∙ ap (churned pairs) fills
@@ -75,3 +81,12 @@ module _ (load : Load) (limit live pairs left : ℕ) (start end : Progress)
   load_limit =
       ap (λ p. p.store.limit) churns ∙ churned-limit (pairs - left) start
       ∙ ap (λ p. p.store.limit) fills ∙ filled-limit live _
+
+-- what is printed of counts, where nothing was printed before
+pub said_after : {W : Type 0} (contents : W → Option (List ℕ)) (was then is : W)
+    (text : Counts → List ℕ) {counts wanted : Counts} → then ≡ was → counts ≡ wanted
+    → Appends (contents then) (contents is) (text counts)
+    → Appends (contents was) (contents is) (text wanted)
+said_after contents was then is text {wanted = wanted} silent same says =
+    subst (λ w. Appends (contents w) (contents is) (text wanted)) silent
+    (subst (λ k. Appends (contents then) (contents is) (text k)) same says)

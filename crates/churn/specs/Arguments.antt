@@ -26,7 +26,8 @@ or_told None text = Err text
 or_told (Some x) text = Ok x
 
 -- what comes after words that are right
-abbrev pub and_then : {X Y : Type 0} → Result X (List ℕ) → (X → Result Y (List ℕ)) → Result Y (List ℕ)
+abbrev pub and_then : {X Y : Type 0} → Result X (List ℕ) → (X → Result Y (List ℕ))
+    → Result Y (List ℕ)
 and_then (Ok x) next = next x
 and_then (Err text) next = Err text
 
@@ -51,7 +52,8 @@ abbrev pub timed_by : List (List ℕ) → Result Bool (List ℕ)
 timed_by [] = Ok false
 timed_by (w ∷ ws) = cond (bytes_eq w (codes "time")) (Ok true) (Err (last_text w))
 
-abbrev pub asked_by : (store load slots live pairs : List ℕ) → (last : List (List ℕ)) → Result Arguments (List ℕ)
+abbrev pub asked_by : (store load slots live pairs : List ℕ) → (last : List (List ℕ))
+    → Result Arguments (List ℕ)
 asked_by store load slots live pairs last =
     and_then (store_asked store) (λ store.
     and_then (load_asked load) (λ load.
@@ -61,13 +63,16 @@ asked_by store load slots live pairs last =
 
 -- five words, or one more
 abbrev pub arguments_of : List (List ℕ) → Result Arguments (List ℕ)
-arguments_of (store ∷ (load ∷ (slots ∷ (live ∷ (pairs ∷ []))))) = asked_by store load slots live pairs []
-arguments_of (store ∷ (load ∷ (slots ∷ (live ∷ (pairs ∷ (last ∷ [])))))) = asked_by store load slots live pairs (last ∷ [])
+arguments_of (store ∷ (load ∷ (slots ∷ (live ∷ (pairs ∷ []))))) =
+    asked_by store load slots live pairs []
+arguments_of (store ∷ (load ∷ (slots ∷ (live ∷ (pairs ∷ (last ∷ [])))))) =
+    asked_by store load slots live pairs (last ∷ [])
 arguments_of words = Err count_text
 
 -- it answers that, or a mistake of that text
 abbrev pub Answers : {X : Type 0} → Result X (List ℕ) → Result X Mistake → Type 0
-Answers told result = MatchResult result (λ x. told ≡ Ok x) (λ mistake. told ≡ Err (mistake_text mistake))
+Answers told result =
+    MatchResult result (λ x. told ≡ Ok x) (λ mistake. told ≡ Err (mistake_text mistake))
 
 -- words that are wrong are told
 abbrev pub Refuses : {X : Type 0} → Result Arguments (List ℕ) → Result X Failure → Type 0

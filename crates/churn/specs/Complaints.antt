@@ -10,7 +10,9 @@ abbrev pub count_text : List ℕ
 count_text = codes "the words are STORE LOAD SLOTS LIVE PAIRS [time]"
 
 abbrev pub store_text : (word : List ℕ) → List ℕ
-store_text word = codes "a store is row, hashed, spread, front-row, front-hashed, front-spread or all, not " ++ quoted_text word
+store_text word =
+    codes "a store is row, hashed, spread, front-row, front-hashed, front-spread or all, not "
+    ++ quoted_text word
 
 abbrev pub load_text : (word : List ℕ) → List ℕ
 load_text word = codes "a load is gaps, queue, rising, scattered or all, not " ++ quoted_text word

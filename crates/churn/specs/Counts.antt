@@ -40,6 +40,7 @@ mixed sum o =
     + display_number o.display)
     % 2 ^ 64
 
+-- at first
 abbrev pub none_counted : Counts
 none_counted = record {
   added = 0;
@@ -70,6 +71,7 @@ pub record Progress : Type 0 where
   pub live : List ℕ
   pub store : Model Order
 
+-- the same by its parts
 abbrev pub come_to : Counts → Feed → List ℕ → Model Order → Progress
 come_to counts feed live store =
     record { counts = counts; feed = feed; live = live; store = store }

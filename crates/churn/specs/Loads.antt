@@ -5,15 +5,15 @@ use Rattle.churn.specs.declared.load.Load.{Load}
 use Rattle.churn.specs.declared.load.Load.TheVariants.{Gaps, Queue, Rising, Scattered}
 use Rattle.churn.specs.declared.random.Random.{Random}
 
--- mixed with itself, moved to the right
+-- with its own bits, moved to the right by so many places, added without carry
 abbrev pub right : (by : ℕ) → ℕ → ℕ
 right by x = bit_xor x (x / 2 ^ by)
 
--- mixed with itself, moved to the left in 64 bits
+-- the same to the left, in 64 bits
 abbrev pub left : (by : ℕ) → ℕ → ℕ
 left by x = bit_xor x (x * 2 ^ by % 2 ^ 64)
 
--- the state of the numbers goes from one to the next by xorshift
+-- the state goes on to the next by xorshift
 unfoldable pub shifted : ℕ → ℕ
 shifted x = right 27 (left 25 (right 12 x))
 
@@ -21,10 +21,11 @@ shifted x = right 27 (left 25 (right 12 x))
 abbrev pub seeded : Random
 seeded = record { state = 0x9e3779b97f4a7c15 }
 
+-- the numbers once one is drawn
 abbrev pub random_after : Random → Random
 random_after r = record { state = shifted r.state }
 
--- the number that is answered: the next state times xorshift64*'s multiplier
+-- the number that is drawn: the next state times the multiplier of xorshift64*
 abbrev pub random_number : Random → ℕ
 random_number r = shifted r.state * 0x2545f4914f6cdd1d % 2 ^ 64
 
@@ -43,33 +44,36 @@ added_id Queue r last = next_to last
 added_id Rising r last = next_to last
 added_id Scattered r last = random_number r
 
--- the numbers after it
+-- the numbers after it, which only some loads draw on for their IDs
 abbrev pub random_added : Load → Random → Random
 random_added Gaps r = random_after r
 random_added Queue r = r
 random_added Rising r = r
 random_added Scattered r = random_after r
 
+-- the ID that a feed adds next
 abbrev pub next_id : Feed → ℕ
 next_id f = added_id f.load f.random f.last
 
+-- the feed once that is added
 abbrev pub id_taken : Feed → Feed
 id_taken f = record f { random = random_added f.load f.random; last = next_id f }
 
--- which of the live orders dies next, before the count of them is divided out
+-- the number that picks the next to die: its remainder by how many live is its place among them
 abbrev pub dying : Load → Random → (turn : ℕ) → ℕ
 dying Queue r turn = turn
 dying Gaps r turn = random_number r
 dying Rising r turn = random_number r
 dying Scattered r turn = random_number r
 
--- the feed after a death
+-- the feed once that one is picked
 abbrev pub death_taken : Load → Feed → Feed
 death_taken Queue f = record f { turn = next_to f.turn }
 death_taken Gaps f = record f { random = random_after f.random }
 death_taken Rising f = record f { random = random_after f.random }
 death_taken Scattered f = record f { random = random_after f.random }
 
+-- where the next to die stands among the live IDs
 abbrev pub death_place : Feed → (live : List ℕ) → ℕ
 death_place f live = dying f.load f.random f.turn % length live
 
@@ -77,10 +81,10 @@ death_place f live = dying f.load f.random f.turn % length live
 abbrev pub dead_id : Feed → (live : List ℕ) → (id : ℕ) → ℕ
 dead_id f live id = cond (length live == 0) id (slice_index live (death_place f live))
 
--- the live IDs afterwards
+-- the live IDs with the other in its place
 abbrev pub live_after : Feed → (live : List ℕ) → (id : ℕ) → List ℕ
 live_after f live id = cond (length live == 0) live (slice_set live (death_place f live) id)
 
--- the feed afterwards
+-- the feed after it
 abbrev pub exchanged : Feed → (live : List ℕ) → Feed
 exchanged f live = cond (length live == 0) f (death_taken f.load f)

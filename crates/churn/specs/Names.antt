@@ -25,7 +25,9 @@ fronted front kind = option_map (λ k. record { kind = k; front = front }) kind
 
 -- the kind's word, behind "front-" where a front stands before the store
 abbrev pub store_meant : List ℕ → Option Stores
-store_meant w = cond (bytes_eq (take 6 w) (codes "front-")) (fronted true (kind_meant (drop 6 w))) (fronted false (kind_meant w))
+store_meant w =
+    cond (bytes_eq (take 6 w) (codes "front-")) (fronted true (kind_meant (drop 6 w)))
+    (fronted false (kind_meant w))
 
 abbrev pub load_name : Load → List ℕ
 load_name Gaps = codes "gaps"

@@ -1,5 +1,5 @@
--- What a run prints where no times are asked for: how many records there is room for, how many
--- live, and how many are removed and added give it, whatever the store.
+-- What a run prints where no times are asked for. The sizes give it, whatever the store: how many
+-- orders there is room for, how many live, and how many pairs are removed and added.
 use Rattle.std.specs.Prelude.{ℕ, ◌-◌, ◌%◌, ◌==◌, Bool, false, true, List, [], ◌∷◌, ◌++◌, codes, flat_map, length, min}
 use Rattle.options.specs.declared.options.Stores.{Stores}
 use Rattle.words.specs.declared.kind.Kind.TheVariants.{Row, Hashed, Spread}
@@ -37,20 +37,25 @@ with_walks m c = record c {
 abbrev pub none_held : (limit : ℕ) → Model Order
 none_held limit = record { rows = []; limit = limit }
 
--- what a load leaves: orders are added until so many live, or could, and then so many are removed
--- and as many added
-unfoldable pub load_run : Load → (limit live pairs : ℕ) → Progress
-load_run load limit live pairs =
-    churned pairs (filled live (come_to none_counted (begun load) [] (none_held limit)))
+-- a load over such a store, once orders are added until so many live, or could
+abbrev pub load_filled : Load → (limit live : ℕ) → Progress
+load_filled load limit live =
+    filled live (come_to none_counted (begun load) [] (none_held limit))
 
+-- and once so many are removed and as many added
+unfoldable pub load_churned : Load → (limit live pairs : ℕ) → Progress
+load_churned load limit live pairs = churned pairs (load_filled load limit live)
+
+-- what is counted of a load, to its last walk
 unfoldable pub load_counts : Load → (limit live pairs : ℕ) → Counts
 load_counts load limit live pairs =
-    let end = load_run load limit live pairs in with_walks end.store end.counts
+    let end = load_churned load limit live pairs in with_walks end.store end.counts
 
 -- counts behind the load that they are of
 abbrev pub counts_line : Load → Counts → List ℕ
 counts_line load counts =
-    codes "(" ++ (load_name load ++ (codes " " ++ (counts_text counts ++ (codes ")" ++ (10 ∷ [])))))
+    codes "("
+    ++ (load_name load ++ (codes " " ++ (counts_text counts ++ (codes ")" ++ (10 ∷ [])))))
 
 abbrev pub load_line : (limit live pairs : ℕ) → Load → List ℕ
 load_line limit live pairs load = counts_line load (load_counts load limit live pairs)

@@ -1,4 +1,4 @@
-// What the program is asked.
+//! What the program is asked.
 ghost use Rattle.std.specs.Prelude.{◌≡◌, map};
 ghost use Rattle.churn.specs.Arguments.{Answers, all_or, arguments_of, load_asked, size_asked, sizes_asked, store_asked, timed_by};
 
@@ -8,23 +8,30 @@ use crate::stores::store_of;
 use options::options::Stores;
 use words::number::number;
 
+/// How much of a load there is.
 #[derive(Clone, Copy, PartialEq, Eq, Debug)]
 pub struct Sizes {
+    /// The most orders that a store holds.
     pub slots: usize,
+    /// The orders that live at a time.
     pub live: usize,
+    /// How often one is removed and one added.
     pub pairs: u64,
 }
 
+/// What is to be run.
 #[derive(Clone, Copy, PartialEq, Eq, Debug)]
 pub struct Arguments {
-    // none where all are asked for
+    /// None where all are asked for.
     pub store: Option<Stores>,
-    // likewise
+    /// None where all are asked for.
     pub load: Option<Load>,
     pub sizes: Sizes,
+    /// How long each part took is to be told.
     pub timed: bool,
 }
 
+/// What the words ask for, or what is wrong with the first of them that is.
 pub fn read<'a>(words: &[&'a [u8]]) -> Result<Arguments, Mistake<'a>>
     ensures { Answers (arguments_of (map (λ word. word.now) words.now)) result }
 {

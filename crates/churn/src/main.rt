@@ -1,6 +1,7 @@
-// Runs loads of adds and removes over a store, and prints what was counted; how long each part took where that is asked.
-//
-// churn STORE LOAD SLOTS LIVE PAIRS [time]
+//! Runs loads of adds and removes over a store, and prints what was counted; how long each part
+//! took where that is asked.
+//!
+//! churn STORE LOAD SLOTS LIVE PAIRS [time]
 #![tactic(auto)]
 
 mod arguments;

@@ -1,4 +1,4 @@
-// What is wrong with the words, and why else nothing is run, or no more.
+//! What is wrong with the words, and why else nothing is run, or no more.
 ghost use Rattle.std.specs.Prelude.{◌≡◌, Some};
 ghost use Rattle.churn.specs.Complaints.{failure_text, mistake_text};
 ghost use Rattle.churn.specs.declared.mistake.Failure.TheVariants.{Words, Other};
@@ -7,13 +7,18 @@ use std::fmt;
 use std::io::Error;
 use words::quoted::Quoted;
 
+/// A word that is wrong.
 #[derive(Clone, Copy, Drop, PartialEq, Eq, Debug)]
 pub enum Mistake<'a> {
-    // too few words, or too many
+    /// Too few words, or too many.
     Count,
+    /// No store has this name.
     Store(&'a [u8]),
+    /// No load has this name.
     Load(&'a [u8]),
+    /// This is no number of 64 bits.
     Size(&'a [u8]),
+    /// This stands behind the sizes, and is not the word for times.
     Last(&'a [u8]),
 }
 
@@ -25,7 +30,8 @@ impl fmt::Display for Mistake<'_> {
             Mistake::Count => f.write_str("the words are STORE LOAD SLOTS LIVE PAIRS [time]"),
             Mistake::Store(word) => write!(
                 f,
-                "a store is row, hashed, spread, front-row, front-hashed, front-spread or all, not {}",
+                "a store is row, hashed, spread, front-row, front-hashed, front-spread or all, \
+                 not {}",
                 Quoted(word)
             ),
             Mistake::Load(word) => write!(
@@ -39,10 +45,12 @@ impl fmt::Display for Mistake<'_> {
     }
 }
 
+/// Why nothing is run, or no more.
 #[derive(Drop)]
 pub enum Failure<'a> {
+    /// A word is wrong.
     Words(Mistake<'a>),
-    // the memory or the output
+    /// The memory, the clock or the output.
     Other(Error),
 }
 

@@ -1,10 +1,11 @@
-// The stores that can be loaded.
+//! The stores that can be loaded.
 ghost use Rattle.std.specs.Prelude.{◌≡◌};
 ghost use Rattle.churn.specs.Names.{store_name, store_meant};
 
 use options::options::Stores;
 use words::kind::{Kind, kind_of};
 
+/// Each store, in the order that they run in.
 pub const STORES: [Stores; 6] = [
     Stores {
         kind: Kind::Row,
@@ -32,6 +33,7 @@ pub const STORES: [Stores; 6] = [
     },
 ];
 
+/// The name of a store.
 pub fn store_name(store: Stores) -> &'static str
     ensures { result.now ≡ store_name store }
 {
@@ -45,7 +47,7 @@ pub fn store_name(store: Stores) -> &'static str
     }
 }
 
-// The store of a name.
+/// The store of a name.
 pub fn store_of(word: &[u8]) -> Option<Stores>
     ensures { result ≡ store_meant word.now }
 {

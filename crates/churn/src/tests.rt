@@ -1,4 +1,5 @@
-// Words that are wrong, and those of every word that is right; one load on one store, and where no order lives.
+//! Words that are wrong, and those of every word that is right; one load on one store, and where
+//! no order lives.
 use crate::arguments::{Arguments, Sizes, read};
 use crate::feed::Feed;
 use crate::load::Load;
@@ -86,7 +87,8 @@ const QUEUE: Arguments = Arguments {
 };
 
 const COUNTS: &[u8] =
-    b"(queue (added 3) (refused 0) (removed 1) (missed 0) (sum 10) (met 2) (swept 1) (kept 1) (left 0))";
+    b"(queue (added 3) (refused 0) (removed 1) (missed 0) (sum 10) (met 2) (swept 1) (kept 1) \
+      (left 0))";
 
 #[test]
 fn one_load_runs_on_one_store(rt: HostRuntime) -> Result<(), Fail> {

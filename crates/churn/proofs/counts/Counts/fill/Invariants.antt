@@ -8,5 +8,6 @@ invariant-loop-place g l = g.S.Store.ready l.initial.store → record {
   still : g.S.Store.ready l.store;
   leaves :
       come_to l.self l.feed (take l.place-index l.live) (g.S.Store.model l.store)
-      ≡ filled l.place-index (come_to l.initial.self l.initial.feed [] (g.S.Store.model l.initial.store));
+      ≡ filled l.place-index
+      (come_to l.initial.self l.initial.feed [] (g.S.Store.model l.initial.store));
 }
