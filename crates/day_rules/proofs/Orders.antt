@@ -250,7 +250,7 @@ module _ (h : History) (os : List Order) (st : OrdersStand h os) (answered : Out
     cleared id None e = lookup-unpicked order_key (is_of c) id os st.rising ∙ ap (unless_picked (is_of c)) e
     cleared id (Some o) e =
         let told : lookup order_key id (others (is_of c) os) ≡ cond (is_of c o) None (Some o) =
-            lookup-unpicked order_key (is_of c) id os st.rising ∙ ap (unless_picked (is_of c)) e in
+        lookup-unpicked order_key (is_of c) id os st.rising ∙ ap (unless_picked (is_of c)) e in
         ⊎_elim
         (λ t.
         let gone : lookup order_key id (others (is_of c) os) ≡ None = rw t at told in
