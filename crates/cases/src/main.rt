@@ -5,6 +5,7 @@
 mod examples;
 mod writes;
 
+use std::io::LineWriter;
 use std::process::ExitCode;
 use words::arguments::arguments;
 use words::named::Named;
@@ -17,7 +18,9 @@ fn main(rt: HostRuntime) -> ExitCode {
 fn show(rt: &HostRuntime) -> Result<(), Failure> {
     no_words(arguments(rt)?)?;
     examples::hold();
-    let mut output = Named::new("standard output", rt.alloc(), rt.stdout());
+    let output = Named::new("standard output", rt.alloc(), rt.stdout());
+    // A line is written at once and whole.
+    let mut output = LineWriter::new(rt.alloc(), output)?;
     writes::show_places(&mut output)?;
     Ok(writes::show_fields(&mut output)?)
 }

@@ -24,7 +24,7 @@ use options::options::Stores;
 use records::order::Order;
 use row_store::row::RowStore;
 use std::io;
-use std::io::Write;
+use std::io::{LineWriter, Write};
 use std::slice::from_ref;
 use store::store::Store;
 use store::walk::walk;
@@ -50,7 +50,9 @@ pub fn run<'a>(rt: &HostRuntime, words: &'a [Vec<u8>]) -> Result<(), Failure<'a>
 {
     let words = bytes_of(rt.alloc(), words)?;
     let asked = read(words.as_slice())?;
-    let mut output = Named::new("standard output", rt.alloc(), rt.stdout());
+    let output = Named::new("standard output", rt.alloc(), rt.stdout());
+    // A line is written whole, as soon as what it tells is done.
+    let mut output = LineWriter::new(rt.alloc(), output)?;
     Ok(run_asked(rt, asked, &mut output)?)
 }
 

@@ -1,5 +1,5 @@
 //! How a field is shown: its word, and then its value unless it is blank.
-ghost use Rattle.std.specs.Prelude.{◌≤◌, ◌∷◌, [], replicate, codes};
+ghost use Rattle.std.specs.Prelude.{◌≤◌, ◌∷◌, [], ◌++◌, replicate, codes};
 ghost use Rattle.std.specs.Fmt.{WritesOnOk};
 ghost use Rattle.layout.specs.Slots.{spell, over};
 ghost use Rattle.forms.specs.Messages.{said, number_said, id_said, symbol_said, participant_said, letter_said};
@@ -19,7 +19,8 @@ pub(crate) fn show_number<W: fmt::Write>(
 ) -> fmt::Result
     ensures { WritesOnOk W.write_str_gives f.old result (number_said word.now value) f.new }
 {
-    write!(f, " ({word} {value})")
+    show_word(f, word)?;
+    write!(f, " {value})")
 }
 
 // An ID as its twelve digits.
@@ -81,9 +82,20 @@ fn show_text<W: fmt::Write>(f: &mut fmt::Formatter<W>, word: &str, text: &[u8]) 
         (said word.now (without_spaces text.now)) f.new }
 {
     let text = legible(text)?;
+    show_word(f, word)?;
     if text.is_empty() {
-        write!(f, " ({word})")
+        f.write_str(")")
     } else {
-        write!(f, " ({word} {text})")
+        write!(f, " {text})")
     }
+}
+
+// A bracket and the word. They are written as they are: `write!` sets the form of each piece anew,
+// and a line has a dozen of them.
+#[inline(always)]
+fn show_word<W: fmt::Write>(f: &mut fmt::Formatter<W>, word: &str) -> fmt::Result
+    ensures { WritesOnOk W.write_str_gives f.old result (codes " (" ++ word.now) f.new }
+{
+    f.write_str(" (")?;
+    f.write_str(word)
 }
