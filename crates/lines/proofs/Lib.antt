@@ -1,1 +1,3 @@
 mod Counting
+mod Cutting
+mod Piecing

@@ -1,6 +1,7 @@
 //! Lists a capture of the feed: a form for each line of standard input, and then the totals.
 #![tactic(auto)]
 
+mod listing;
 mod rewriting;
 mod running;
 mod totals;
@@ -12,7 +13,7 @@ use words::arguments::arguments;
 use words::named::Named;
 use words::program::{Failure, ended, no_words};
 
-// So many bytes are read and written at a time, whatever the length of the lines.
+// At most so many bytes are read and written at a time, whatever the length of the lines.
 const CHUNK: usize = 65_536;
 
 fn main(rt: HostRuntime) -> ExitCode {

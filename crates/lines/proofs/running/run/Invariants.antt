@@ -1,12 +1,13 @@
--- The lines so far are listed and counted, and those to come will be; each message gave its line
--- back.
-use Rattle.std.proofs.Common.{◌≡◌}
-use Rattle.capture.specs.Sessions.{Says}
-use Rattle.lines.specs.Listings.{listing}
-use Rattle.lines.proofs.Counting.{Counting}
+-- What was read is listed, and as many are rewritten as are read.
+use Rattle.std.proofs.Common.{ℕ, List, []}
+use Rattle.std.specs.Io.KnownBytes.{Consumes}
+use Rattle.capture.specs.Held.{held}
+use Rattle.lines.specs.Counted.{IsEven, none_counted}
+use Rattle.lines.specs.Pieces.{IsListed}
 use Rattle.lines.proofs.running.run.Given as goal
 
 abbrev pub invariant-loop : goal.invariant-loop
 invariant-loop g l =
-    Says (g.R.Read.remaining l.initial.input) (g.R.Read.remaining l.input) (g.W.Write.contents l.initial.output) (g.W.Write.contents l.output) (listing 0) (listing l.totals.lines)
-    × Counting (g.R.Read.remaining l.initial.input) (g.R.Read.remaining l.input) l.totals × (l.totals.rewritten ≡ l.totals.read)
+    ((bytes : List ℕ) × Consumes (g.R.Read.remaining l.initial.input) (g.R.Read.remaining l.input) bytes
+    × IsListed [] bytes (held l.listing.line) none_counted l.listing.totals (g.W.Write.contents l.initial.output) (g.W.Write.contents l.output))
+    × IsEven l.listing.totals

@@ -1,0 +1,84 @@
+-- The lines of an input of which some bytes have come.
+use Rattle.std.proofs.Common.{◌≡◌, ℕ, zero, suc, ◌<◌, ◌≤◌, ◌==◌, false, List, [], ◌∷◌, ◌++◌, length, map, take, Some, None, sym, refl, ap, ◌∙◌, ⊎_elim, arith, append-nil, append_assoc, length-append, length-take, eq-eqb, ne_eqb, take_all}
+use Rattle.std.proofs.lemmas.Bool.{cases_eq}
+use Rattle.std.specs.Io.BufRead.{drop_through}
+use Rattle.capture.specs.declared.buffer.LineBuffer.{LineBuffer}
+use Rattle.capture.specs.Begun.{IsUnended}
+use Rattle.capture.specs.Held.{held}
+use Rattle.capture.specs.Lines.{passed_on, lines_of}
+use Rattle.capture.specs.Splits.{before_end, after_end}
+use Rattle.capture.proofs.Reading.{take-front, before-whole, through-whole, before-cut, shorter, whole-first, unended-both}
+
+-- No line ends before the first line end, nor in a front of what has none.
+
+unended-before : (xs : List ℕ) → IsUnended (before_end xs)
+unended-before [] = refl
+unended-before (x ∷ xs) =
+    ⊎_elim
+    (λ e. let off = eq-eqb x 10 e in rw off refl)
+    (λ e. let off = ne_eqb x 10 e in rw (off, off) (unended-before xs))
+    (cases_eq x 10)
+
+unended-front : (n : ℕ) (xs : List ℕ) → IsUnended xs → IsUnended (take n xs)
+unended-front zero xs none = refl
+unended-front (suc n) [] none = refl
+unended-front (suc n) (x ∷ xs) none =
+    ⊎_elim
+    (λ (e : x ≡ 10). let off = eq-eqb x 10 e in absurd (let f : Some xs ≡ None = rw off at none in cc))
+    (λ e. let off = ne_eqb x 10 e in rw off (unended-front n xs (rw off at none)))
+    (cases_eq x 10)
+
+-- so the line goes on where none ends
+pub unended-on : (begun piece : List ℕ) → IsUnended begun → IsUnended (take 255 (begun ++ before_end piece))
+unended-on begun piece none =
+    unended-front 255 (begun ++ before_end piece) (unended-both begun (before_end piece) none (unended-before piece))
+
+-- what stands behind the first line end
+through-next : (piece rest r : List ℕ) → after_end piece ≡ Some r → drop_through 10 (piece ++ rest) ≡ r ++ rest
+through-next [] rest r some = cc
+through-next (x ∷ xs) rest r some =
+    ⊎_elim
+    (λ (e : x ≡ 10). let off = eq-eqb x 10 e in let same : xs ≡ r = (let f : Some xs ≡ Some r = rw off at some in cc) in rw off (ap (λ t. t ++ rest) same))
+    (λ e. let off = ne_eqb x 10 e in rw off (through-next xs rest r (rw off at some)))
+    (cases_eq x 10)
+
+-- the line that was begun, and the others
+line-first : (begun rest : List ℕ) → IsUnended begun → 0 < length (begun ++ rest) → lines_of (begun ++ rest) ≡ take 255 (begun ++ before_end rest) ∷ lines_of (drop_through 10 rest)
+line-first [] [] none some = absurd (omega arith)
+line-first [] (y ∷ ys) none some = ap (map passed_on) (whole-first y ys)
+line-first (x ∷ xs) rest none some =
+    ap (map passed_on) (whole-first x (xs ++ rest))
+    ∙ (λ i. take 255 (before-whole (x ∷ xs) rest none i) ∷ lines_of (through-whole (x ∷ xs) rest none i))
+
+-- it ends in the piece
+pub line-cut : (begun piece rest r : List ℕ) → IsUnended begun → after_end piece ≡ Some r → lines_of (begun ++ (piece ++ rest)) ≡ take 255 (begun ++ before_end piece) ∷ lines_of (r ++ rest)
+line-cut begun piece rest r none some =
+    let size = shorter piece r some in
+    line-first begun (piece ++ rest) none (let a = length-append begun (piece ++ rest) in let b = length-append piece rest in omega arith)
+    ∙ (λ i. take 255 (begun ++ before-cut piece rest r some i) ∷ lines_of (through-next piece rest r some i))
+
+-- what is kept of it is as good as all of it
+front-kept : (begun rest : List ℕ) → IsUnended begun → lines_of (take 255 begun ++ rest) ≡ lines_of (begun ++ rest)
+front-kept [] rest none = refl
+front-kept (x ∷ xs) rest none =
+    line-first (take 255 (x ∷ xs)) rest (unended-front 255 (x ∷ xs) none) (omega arith)
+    ∙ ap (λ line. line ∷ lines_of (drop_through 10 rest)) (take-front 255 (x ∷ xs) (before_end rest))
+    ∙ sym (line-first (x ∷ xs) rest none (omega arith))
+
+-- it goes on
+pub line-on : (begun piece rest : List ℕ) → IsUnended begun → IsUnended piece → lines_of (begun ++ (piece ++ rest)) ≡ lines_of (take 255 (begun ++ before_end piece) ++ rest)
+line-on begun piece rest none also =
+    let all : before_end piece ≡ piece = ap before_end (sym (append-nil piece)) ∙ before-whole piece [] also ∙ append-nil piece in
+    ap lines_of (sym (append_assoc begun piece rest))
+    ∙ sym (front-kept (begun ++ piece) rest (unended-both begun piece none also))
+    ∙ ap (λ p. lines_of (take 255 (begun ++ p) ++ rest)) (sym all)
+
+-- nothing more comes
+line-alone : (begun : List ℕ) → IsUnended begun → length begun ≤ 255 → (length begun == 0) ≡ false → lines_of begun ≡ begun ∷ []
+line-alone [] none fits some = cc
+line-alone (x ∷ xs) none fits some =
+    ap lines_of (sym (append-nil (x ∷ xs))) ∙ line-first (x ∷ xs) [] none (omega arith)
+    ∙ ap (λ line. line ∷ []) (ap (take 255) (append-nil (x ∷ xs)) ∙ take_all 255 (x ∷ xs) fits)
+
+pub held-alone : (b : LineBuffer) → IsUnended (held b) → (length (held b) == 0) ≡ false → lines_of (held b) ≡ held b ∷ []
+held-alone b none some = line-alone (held b) none (omega (arith, length-take b.len b.bytes, b.inside)) some

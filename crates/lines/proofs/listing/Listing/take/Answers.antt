@@ -1,0 +1,30 @@
+use Rattle.std.proofs.Common.{◌≡◌, ◌++◌, take, None, Some, ap, ◌∙◌, rules}
+use Rattle.capture.specs.Held.{held}
+use Rattle.capture.specs.Splits.{after_end}
+use Rattle.lines.proofs.Cutting.{unended-on}
+use Rattle.lines.proofs.Piecing.{listed-none, listed-line}
+use Rattle.lines.proofs.listing.Listing.take.Goals as goal
+
+pub invariant_of-self : goal.invariant_of-self
+invariant_of-self g c = record {
+  unended = rw (c.extend.ensures, c.split_line.ensures.first) (unended-on (held c.loop-next.self.line) c.loop-next.rest.now c.loop-next.self.unended);
+}
+
+pub returns-in_default-clause-says : goal.returns-in_default-clause-says
+returns-in_default-clause-says g c =
+    let none : after_end c.loop-next.rest.now ≡ None = search rules in
+    c.loop-next.invariant.1 (held c.extend.new.self) c.loop-next.self.totals (g.W.Write.contents c.loop-next.output)
+    (rw (c.extend.ensures, c.split_line.ensures.first) (listed-none (held c.loop-next.self.line) c.loop-next.rest.now c.loop-next.self.totals (g.W.Write.contents c.loop-next.output) c.loop-next.self.unended none))
+
+pub loop-next-preserved : goal.loop-next-preserved
+loop-next-preserved g c =
+    let begun = held c.loop-next.self.line in
+    let next = c.in-Some.next.now in
+    let ends : after_end c.loop-next.rest.now ≡ Some next = search rules in (
+      λ even. c.end_line.ensures.even (c.loop-next.invariant.0 even),
+      λ left u is others.
+          c.loop-next.invariant.1 left u is
+          (listed-line begun c.loop-next.rest.now next left (held c.extend.new.self) c.loop-next.self.totals c.end_line.new.self.totals u (g.W.Write.contents c.loop-next.output) (g.W.Write.contents c.end_line.new.output) is
+          c.loop-next.self.unended ends (c.extend.ensures ∙ ap (λ end. take 255 (begun ++ end)) c.split_line.ensures.first)
+          c.end_line.ensures.counts c.in_ok-end_line.ensures.says (rw c.end_line.ensures.line at others)),
+    )
