@@ -20,7 +20,8 @@ pub(crate) fn show_number<W: fmt::Write>(
     ensures { WritesOnOk W.write_str_gives f.old result (number_said word.now value) f.new }
 {
     show_word(f, word)?;
-    write!(f, " {value})")
+    f.write_str(" ")?;
+    write!(f, "{value})")
 }
 
 // An ID as its twelve digits.
@@ -86,7 +87,8 @@ fn show_text<W: fmt::Write>(f: &mut fmt::Formatter<W>, word: &str, text: &[u8]) 
     if text.is_empty() {
         f.write_str(")")
     } else {
-        write!(f, " {text})")
+        f.write_str(" ")?;
+        write!(f, "{text})")
     }
 }
 
