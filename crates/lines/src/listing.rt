@@ -7,7 +7,7 @@ ghost use Rattle.capture.specs.Held.{held};
 ghost use Rattle.capture.specs.Lines.{lines_of};
 ghost use Rattle.messages.specs.Telling.{line_message};
 ghost use Rattle.lines.specs.Counted.{IsEven, after, counted, none_counted, totals_told};
-ghost use Rattle.lines.specs.Listings.{form_of, listing, numbered};
+ghost use Rattle.lines.specs.Listings.{form_of, is_read, is_rewritten, listing, numbered};
 ghost use Rattle.lines.specs.Pieces.{IsListed};
 
 use crate::rewriting::comes_back;
@@ -113,7 +113,8 @@ impl Listing {
 
 // Lists a line, and counts it.
 fn list<W: Write>(line: &[u8], totals: &mut Totals, output: &mut W) -> io::Result<()>
-    ensures even { IsEven totals.old → IsEven totals.new }
+    ensures even { is_rewritten line.now ≡ is_read line.now }
+    ensures still { IsEven totals.old → IsEven totals.new }
     ensures counts { totals.new ≡ counted line.now totals.old }
     ensures says { OnOk result (Appends (W.contents output.old) (W.contents output.new)
         (numbered (more totals.old.lines) (form_of (line_message line.now)))) }
