@@ -4,6 +4,8 @@
 mod listing;
 mod rewriting;
 mod running;
+#[cfg(test)]
+mod tests;
 mod totals;
 
 use running::run;
