@@ -77,7 +77,6 @@ impl<L: Lettered> fmt::Display for LetterText<L> {
     ghost output = { λ t. Some (encode_utf8 (L.Lettered.written t.0)) };
 
     fn fmt<W: fmt::Write>(&self, f: &mut fmt::Formatter<W>) -> fmt::Result {
-        let byte: u8 = self.0.into();
-        f.write_char(char::from(byte))
+        f.write_char(char::from(self.0.byte()))
     }
 }

@@ -30,15 +30,19 @@ impl Field for Mark {
     }
 
     // Whatever was read is the letter, and so is what is written.
-    fn allows(self, _value: ()) -> bool {
+    fn allows(self, _value: &()) -> bool {
         true
     }
 
-    fn gives(self, _value: ()) -> bool {
+    fn allowed(self, value: ()) -> Option<()> {
+        Some(value)
+    }
+
+    fn gives(self, _value: &()) -> bool {
         true
     }
 
-    fn put(self, room: &mut [u8], offset: u8, _value: ()) {
+    fn put(self, room: &mut [u8], offset: u8, _value: &()) {
         put_byte(room, offset, self.letter);
     }
 }

@@ -28,16 +28,20 @@ impl<const BASE: u64, const COUNT: u8> Field for Number<BASE, COUNT> {
         }
     }
 
-    fn allows(self, value: u64) -> bool {
-        self.low <= value && value <= self.high
+    fn allows(self, value: &u64) -> bool {
+        self.low <= *value && *value <= self.high
     }
 
-    fn gives(self, value: u64) -> bool {
+    fn allowed(self, value: u64) -> Option<u64> {
+        self.allows(&value).then_some(value)
+    }
+
+    fn gives(self, value: &u64) -> bool {
         self.allows(value)
     }
 
-    fn put(self, room: &mut [u8], offset: u8, value: u64) {
-        put_digits(room, offset, BASE, COUNT, value);
+    fn put(self, room: &mut [u8], offset: u8, value: &u64) {
+        put_digits(room, offset, BASE, COUNT, *value);
     }
 }
 

@@ -23,8 +23,10 @@ impl<F: Field> Reading for F {
     fn read(self, line: &[u8], place: Place) -> Result<(Self::Value, &[u8]), FieldFault> {
         match self.scan(line) {
             Err(index) => Err(FieldFault::Byte(place.spot(index))),
-            Ok(value) if self.allows(value) => Ok((value, past(line, self.width()))),
-            Ok(_) => Err(FieldFault::Range(place.into())),
+            Ok(value) => match self.allowed(value) {
+                Some(value) => Ok((value, past(line, self.width()))),
+                None => Err(FieldFault::Range(place.into())),
+            },
         }
     }
 }

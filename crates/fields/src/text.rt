@@ -44,19 +44,23 @@ impl Field for Text {
     }
 
     // Any text that was read.
-    fn allows(self, _value: u64) -> bool {
+    fn allows(self, _value: &u64) -> bool {
         true
     }
 
-    // Whether the number's own bytes are read as that number.
-    fn gives(self, value: u64) -> bool {
-        let mut bytes = [0u8; 8];
-        self.put(&mut bytes, 0, value);
-        self.scan(&bytes) == Ok(value)
+    fn allowed(self, value: u64) -> Option<u64> {
+        Some(value)
     }
 
-    fn put(self, room: &mut [u8], offset: u8, value: u64) {
-        let kept = unfilled(value, self.whole - self.width);
+    // Whether the number's own bytes are read as that number.
+    fn gives(self, value: &u64) -> bool {
+        let mut bytes = [0u8; 8];
+        self.put(&mut bytes, 0, value);
+        self.scan(&bytes) == Ok(*value)
+    }
+
+    fn put(self, room: &mut [u8], offset: u8, value: &u64) {
+        let kept = unfilled(*value, self.whole - self.width);
         put_digits(room, offset, 256, self.width, kept);
     }
 }

@@ -68,12 +68,12 @@ fn show_field<W: fmt::Write, F: Field<Value = u64>, const SIZE: usize>(
 pub(crate) fn show_letter<W: fmt::Write, L: Lettered>(
     f: &mut fmt::Formatter<W>,
     word: &str,
-    value: L,
+    value: &L,
 ) -> fmt::Result
     ensures { WritesOnOk W.write_str_gives f.old result
-        (letter_said word.now (L.Lettered.written value)) f.new }
+        (letter_said word.now (L.Lettered.written value.now)) f.new }
 {
-    show_text(f, word, &[value.into()])
+    show_text(f, word, &[value.byte()])
 }
 
 // The text is written whole, and not a character at a time.

@@ -68,7 +68,7 @@ fn show_terms<W: fmt::Write, S: Lettered>(
 {
     show_head(f, letter, terms.time)?;
     show_id(f, "order", terms.order)?;
-    show_letter(f, "side", terms.side)?;
+    show_letter(f, "side", &terms.side)?;
     show_number(f, "shares", terms.shares)?;
     show_symbol(f, terms.symbol)?;
     show_number(f, "price", terms.price)
@@ -78,7 +78,7 @@ fn show_add<W: fmt::Write>(f: &mut fmt::Formatter<W>, letter: u8, add: &AddOrder
     ensures { WritesOnOk W.write_str_gives f.old result (add_said letter add.now) f.new }
 {
     show_terms(f, letter, &add.terms)?;
-    show_letter(f, "display", add.display)
+    show_letter(f, "display", &add.display)
 }
 
 fn show_long_add<W: fmt::Write>(f: &mut fmt::Formatter<W>, add: &LongAdd) -> fmt::Result
@@ -86,7 +86,7 @@ fn show_long_add<W: fmt::Write>(f: &mut fmt::Formatter<W>, add: &LongAdd) -> fmt
 {
     show_add(f, AddLong::LETTER, &add.add)?;
     show_participant(f, add.participant)?;
-    show_letter(f, "customer", add.customer)
+    show_letter(f, "customer", &add.customer)
 }
 
 fn show_execution<W: fmt::Write>(

@@ -93,7 +93,7 @@ pub(crate) fn spelled<F: Field<Value = u64>, const SIZE: usize>(field: F, value:
         ≡ over 0 (spell (F.Field.slot field) (F.Field.number field value)) (replicate SIZE 32) }
 {
     let mut text = [b' '; SIZE];
-    field.put(&mut text, 0, value);
+    field.put(&mut text, 0, &value);
     text
 }
 

@@ -59,8 +59,7 @@ fn read_whole<F: Field<Value = u64>>(field: F, bytes: &[u8]) -> Option<u64>
     if bytes.len() != field.width() as usize {
         return None;
     }
-    let value = field.scan(bytes).ok()?;
-    field.allows(value).then_some(value)
+    field.allowed(field.scan(bytes).ok()?)
 }
 
 /// The side whose letter the word is.

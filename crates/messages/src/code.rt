@@ -69,7 +69,9 @@ impl Lettered for Side {
 
     ghost reads = { λ _ _ read. read };
 
-    ghost writes = { λ _ _ written. written };
+    fn byte(&self) -> u8 {
+        (*self).into()
+    }
 
     ghost member = { side_member };
 }
@@ -104,7 +106,9 @@ impl Lettered for TradeSide {
 
     ghost reads = { λ _ _ read. read };
 
-    ghost writes = { λ _ _ written. written };
+    fn byte(&self) -> u8 {
+        (*self).into()
+    }
 
     ghost member = { trade_side_member };
 }
@@ -141,7 +145,9 @@ impl Lettered for Display {
 
     ghost reads = { λ _ _ read. read };
 
-    ghost writes = { λ _ _ written. written };
+    fn byte(&self) -> u8 {
+        (*self).into()
+    }
 
     ghost member = { display_member };
 }
@@ -178,7 +184,9 @@ impl Lettered for Customer {
 
     ghost reads = { λ _ _ read. read };
 
-    ghost writes = { λ _ _ written. written };
+    fn byte(&self) -> u8 {
+        (*self).into()
+    }
 
     ghost member = { customer_member };
 }

@@ -54,15 +54,15 @@ impl Kind for OrderCancel {
     }
 
     fn check(cancel: &Cancel) -> Result<(), FieldFault> {
-        TIME.check(cancel.time, Self::at(0))?;
-        ID.check(cancel.order, Self::at(9))?;
-        SHARES.check(cancel.shares, Self::at(21))
+        TIME.check(&cancel.time, Self::at(0))?;
+        ID.check(&cancel.order, Self::at(9))?;
+        SHARES.check(&cancel.shares, Self::at(21))
     }
 
     fn put(cancel: &Cancel, room: &mut [u8]) {
-        TIME.put(room, 0, cancel.time);
-        Self::mark().put(room, 8, ());
-        ID.put(room, 9, cancel.order);
-        SHARES.put(room, 21, cancel.shares);
+        TIME.put(room, 0, &cancel.time);
+        Self::mark().put(room, 8, &());
+        ID.put(room, 9, &cancel.order);
+        SHARES.put(room, 21, &cancel.shares);
     }
 }

@@ -50,13 +50,13 @@ impl Kind for SymbolClear {
     }
 
     fn check(clear: &ClearSymbol) -> Result<(), FieldFault> {
-        TIME.check(clear.time, Self::at(0))?;
-        LONG_SYMBOL.check(clear.symbol, Self::at(9))
+        TIME.check(&clear.time, Self::at(0))?;
+        LONG_SYMBOL.check(&clear.symbol, Self::at(9))
     }
 
     fn put(clear: &ClearSymbol, room: &mut [u8]) {
-        TIME.put(room, 0, clear.time);
-        Self::mark().put(room, 8, ());
-        LONG_SYMBOL.put(room, 9, clear.symbol);
+        TIME.put(room, 0, &clear.time);
+        Self::mark().put(room, 8, &());
+        LONG_SYMBOL.put(room, 9, &clear.symbol);
     }
 }

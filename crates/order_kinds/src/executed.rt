@@ -56,17 +56,17 @@ impl Kind for OrderExecuted {
     }
 
     fn check(executed: &OrderExecution) -> Result<(), FieldFault> {
-        TIME.check(executed.time, Self::at(0))?;
-        ID.check(executed.order, Self::at(9))?;
-        SHARES.check(executed.shares, Self::at(21))?;
-        ID.check(executed.execution, Self::at(27))
+        TIME.check(&executed.time, Self::at(0))?;
+        ID.check(&executed.order, Self::at(9))?;
+        SHARES.check(&executed.shares, Self::at(21))?;
+        ID.check(&executed.execution, Self::at(27))
     }
 
     fn put(executed: &OrderExecution, room: &mut [u8]) {
-        TIME.put(room, 0, executed.time);
-        Self::mark().put(room, 8, ());
-        ID.put(room, 9, executed.order);
-        SHARES.put(room, 21, executed.shares);
-        ID.put(room, 27, executed.execution);
+        TIME.put(room, 0, &executed.time);
+        Self::mark().put(room, 8, &());
+        ID.put(room, 9, &executed.order);
+        SHARES.put(room, 21, &executed.shares);
+        ID.put(room, 27, &executed.execution);
     }
 }

@@ -39,7 +39,7 @@ fn add_message(sum: u64, message: &Message) -> u64
         Message::AddShort(m) => add_order(sum, AddShort::LETTER, m),
         Message::AddLong(m) => {
             let sum = add_order(sum, AddLong::LETTER, &m.add);
-            mix_all(sum, &[m.participant, letter_of(m.customer)])
+            mix_all(sum, &[m.participant, letter_of(&m.customer)])
         }
         Message::OrderExecuted(m) => mix_all(
             sum,
@@ -66,7 +66,7 @@ fn add_order(sum: u64, letter: u8, add: &AddOrder) -> u64
     ensures { result ≡ mixed_all sum
         (terms_then side_letter letter add.now.terms (display_letter add.now.display ∷ [])) }
 {
-    mix(add_terms(sum, letter, &add.terms), letter_of(add.display))
+    mix(add_terms(sum, letter, &add.terms), letter_of(&add.display))
 }
 
 // The sum with the letter of the kind and the terms of the order.
@@ -74,15 +74,14 @@ fn add_terms<S: Lettered>(sum: u64, letter: u8, terms: &Terms<S>) -> u64
     ensures { result ≡ mixed_all sum (terms_then S.written letter terms.now []) }
 {
     let sum = mix_all(sum, &[terms.time, letter as u64, terms.order]);
-    let sum = mix(sum, letter_of(terms.side));
+    let sum = mix(sum, letter_of(&terms.side));
     mix_all(sum, &[terms.shares, terms.symbol, terms.price])
 }
 
-fn letter_of<L: Lettered>(value: L) -> u64
-    ensures { result ≡ L.written value }
+fn letter_of<L: Lettered>(value: &L) -> u64
+    ensures { result ≡ L.written value.now }
 {
-    let letter: u8 = value.into();
-    letter as u64
+    value.byte() as u64
 }
 
 // The sum with the refusal's number and what it carries.

@@ -59,13 +59,13 @@ pub fn check_terms<R: Termed>(said: &R, letter: u8, form: Text) -> Result<(), Fi
         (terms_then R.Side.written letter (R.terms said.now) (R.Termed.said said.now)) }
 {
     let terms = said.terms();
-    TIME.check(terms.time, Place { letter, offset: 0 })?;
-    ID.check(terms.order, Place { letter, offset: 9 })?;
+    TIME.check(&terms.time, Place { letter, offset: 0 })?;
+    ID.check(&terms.order, Place { letter, offset: 9 })?;
     // Every side has a letter.
-    SHARES.check(terms.shares, Place { letter, offset: 22 })?;
-    form.check(terms.symbol, Place { letter, offset: 28 })?;
+    SHARES.check(&terms.shares, Place { letter, offset: 22 })?;
+    form.check(&terms.symbol, Place { letter, offset: 28 })?;
     let offset = 28 + form.width;
-    PRICE.check(terms.price, Place { letter, offset })?;
+    PRICE.check(&terms.price, Place { letter, offset })?;
     said.check_others(letter, form)
 }
 
@@ -78,12 +78,12 @@ pub fn put_terms<R: Termed>(said: &R, room: &mut [u8], letter: u8, form: Text)
         (terms_then R.Side.written letter (R.terms said.now) (R.Termed.said said.now)) room.old }
 {
     let terms = said.terms();
-    TIME.put(room, 0, terms.time);
-    Mark { letter }.put(room, 8, ());
-    ID.put(room, 9, terms.order);
-    Letter(PhantomData).put(room, 21, terms.side);
-    SHARES.put(room, 22, terms.shares);
-    form.put(room, 28, terms.symbol);
-    PRICE.put(room, 28 + form.width, terms.price);
+    TIME.put(room, 0, &terms.time);
+    Mark { letter }.put(room, 8, &());
+    ID.put(room, 9, &terms.order);
+    Letter(PhantomData).put(room, 21, &terms.side);
+    SHARES.put(room, 22, &terms.shares);
+    form.put(room, 28, &terms.symbol);
+    PRICE.put(room, 28 + form.width, &terms.price);
     said.put_others(room, form);
 }

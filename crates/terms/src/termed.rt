@@ -20,7 +20,7 @@ use messages::record::{AddOrder, LongAdd, Terms, Trade};
 /// A record with the terms of an order and others. A line gives the others after the price, which
 /// ends later in the long form than in the short one.
 pub trait Termed: Sized {
-    type Side: Lettered;
+    type Side: Lettered + Copy;
 
     ghost terms: { Self → Terms Self.Side };
 
@@ -85,7 +85,7 @@ impl Termed for AddOrder {
     }
 
     fn put_others(&self, room: &mut [u8], form: Text) {
-        DISPLAY.put(room, price_end(form), self.display);
+        DISPLAY.put(room, price_end(form), &self.display);
     }
 }
 
@@ -143,14 +143,14 @@ impl Termed for LongAdd {
 
     fn check_others(&self, letter: u8, form: Text) -> Result<(), FieldFault> {
         let offset = price_end(form) + 1;
-        PARTICIPANT.check(self.participant, Place { letter, offset })
+        PARTICIPANT.check(&self.participant, Place { letter, offset })
     }
 
     fn put_others(&self, room: &mut [u8], form: Text) {
         let end = price_end(form);
         self.add.put_others(room, form);
-        PARTICIPANT.put(room, end + 1, self.participant);
-        CUSTOMER.put(room, end + 5, self.customer);
+        PARTICIPANT.put(room, end + 1, &self.participant);
+        CUSTOMER.put(room, end + 5, &self.customer);
     }
 }
 
@@ -183,11 +183,11 @@ impl Termed for Trade {
 
     fn check_others(&self, letter: u8, form: Text) -> Result<(), FieldFault> {
         let offset = price_end(form);
-        ID.check(self.execution, Place { letter, offset })
+        ID.check(&self.execution, Place { letter, offset })
     }
 
     fn put_others(&self, room: &mut [u8], form: Text) {
-        ID.put(room, price_end(form), self.execution);
+        ID.put(room, price_end(form), &self.execution);
     }
 }
 

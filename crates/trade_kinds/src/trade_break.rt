@@ -49,13 +49,13 @@ impl Kind for TradeBreak {
     }
 
     fn check(broken: &Break) -> Result<(), FieldFault> {
-        TIME.check(broken.time, Self::at(0))?;
-        ID.check(broken.execution, Self::at(9))
+        TIME.check(&broken.time, Self::at(0))?;
+        ID.check(&broken.execution, Self::at(9))
     }
 
     fn put(broken: &Break, room: &mut [u8]) {
-        TIME.put(room, 0, broken.time);
-        Self::mark().put(room, 8, ());
-        ID.put(room, 9, broken.execution);
+        TIME.put(room, 0, &broken.time);
+        Self::mark().put(room, 8, &());
+        ID.put(room, 9, &broken.execution);
     }
 }

@@ -16,5 +16,5 @@ returns c =
     let f = c.args.self in
     let within = f.inside in
     let fits = f.fits in
-    let walk = scan-over (text_slot f) (spell (text_slot f) c.args.value) _ (length-digit_bytes 256 f.width _) (omega arith) in
-    c.eq.ensures ∙ compared c.args.value c.scan.result _ c.scan.ensures ∙ ap (is_read_again c.args.value) (ap (scan_slot (text_slot f)) c.put.ensures ∙ walk)
+    let walk = scan-over (text_slot f) (spell (text_slot f) c.args.value.now) _ (length-digit_bytes 256 f.width _) (omega arith) in
+    c.eq.ensures ∙ compared c.args.value.now c.scan.result _ c.scan.ensures ∙ ap (is_read_again c.args.value.now) (ap (scan_slot (text_slot f)) c.put.ensures ∙ walk)
