@@ -1,3 +1,4 @@
+pub mod Cutting
 mod Gathering
 pub mod Reading
 pub mod Saying

@@ -1,5 +1,5 @@
 -- Parts that print one after the other.
-use Rattle.std.proofs.Common.{◌≡◌, ℕ, Bool, true, false, MatchBool, List, [], ◌∷◌, ◌++◌, Option, Some, IfSome, None, refl, sym, ap, subst, ◌∙◌, append_assoc}
+use Rattle.std.proofs.Common.{◌≡◌, ℕ, Bool, true, false, MatchBool, List, [], ◌∷◌, ◌++◌, Option, Some, IfSome, None, refl, sym, ap, ◌∙◌, append_assoc}
 use Rattle.std.specs.Io.KnownBytes.{Appends}
 use Rattle.std.specs.Io.BufRead.{DropsThrough, drop_through}
 use Rattle.std.proofs.KnownBytes.{Appends-nil, Appends-trans}
@@ -45,15 +45,3 @@ pub says_line : (before between coming was then is : Option (List ℕ)) (there :
 says_line before between coming was then is false line due later last on first cut left p = cc
 says_line before between coming was then is true line due later last on first cut left p =
     says_both before between coming was then is due later last first (says_read between coming then is line later last cut left p)
-
--- a part, and then what is printed where no line is left
-pub says_last : (before between was then is : Option (List ℕ)) (there : Bool) (line : List ℕ) (due later : List (List ℕ) → List ℕ)
-    → there ≡ false → Says before between was then due later
-    → IfSome between (λ bytes. MatchBool there (lines_of bytes ≡ line ∷ lines_of (drop_through 10 bytes)) (lines_of bytes ≡ []))
-    → Appends then is (later []) → IfSome before (λ bytes. Appends was is (due (lines_of bytes)))
-says_last before between was then is true line due later off first cut printed = cc
-says_last before between was then is false line due later off first cut printed =
-    known-weaker before _ _ (λ bytes p.
-    let none : lines_of p.rest ≡ [] = known-at between p.rest _ p.left cut in
-    subst (Appends was is) (ap (λ lines. p.printed ++ later lines) (sym none) ∙ p.whole)
-    (Appends-trans was then is p.printed (later []) p.appends printed)) first

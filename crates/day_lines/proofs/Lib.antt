@@ -1,5 +1,4 @@
 pub mod Counting
-mod Cutting
 pub mod Printing
 mod Putting
 pub mod Places

@@ -1,5 +1,5 @@
 -- Lines that are put and printed one after the other.
-use Rattle.std.proofs.Common.{◌≡◌, ℕ, Bool, List, [], ◌∷◌, ◌++◌, length, drop, take, Option, Some, None, IfSome, Result, sym, refl, ap, subst, ◌∙◌, arith, append_assoc, append-nil, take_all, ◌==◌, false, take-append-drop, length-take}
+use Rattle.std.proofs.Common.{◌≡◌, ℕ, Bool, List, [], ◌∷◌, ◌++◌, ◌≤◌, length, drop, take, Option, Some, None, IfSome, Result, sym, refl, ap, subst, ◌∙◌, arith, append_assoc, append-nil, take_all, ◌==◌, false, take-append-drop, ne_eqb}
 use Rattle.std.specs.Io.{StartsWith}
 use Rattle.std.specs.Io.KnownBytes.{Appends}
 use Rattle.std.proofs.KnownBytes.{Appends-nil, Appends-trans}
@@ -8,6 +8,7 @@ use Rattle.capture.specs.Begun.{IsUnended}
 use Rattle.capture.specs.Held.{held}
 use Rattle.capture.specs.Lines.{lines_of}
 use Rattle.capture.specs.Splits.{before_end, after_end}
+use Rattle.capture.proofs.Cutting.{front-kept, held-fits, line-alone, line-cut, unended-front}
 use Rattle.capture.proofs.Reading.{unended-both}
 use Rattle.day_rules.specs.declared.fault.LedgerFault.{LedgerFault}
 use Rattle.day_rules.specs.declared.outcome.Outcome.{Outcome}
@@ -19,7 +20,6 @@ use Rattle.day_lines.specs.Seen.{none_seen, one_seen, all_seen, IsSeen}
 use Rattle.day_lines.specs.Takings.{Taken, begun_line, Cut}
 use Rattle.day_lines.specs.Texts.{answer_line, answers_text}
 use Rattle.day_lines.proofs.Counting.{all_counted}
-use Rattle.day_lines.proofs.Cutting.{begun_all, line_cut, unended_front, front_kept}
 
 -- Some lines and then others.
 
@@ -81,7 +81,7 @@ module _ (shown : Bool) (begun piece now rest : List ℕ) (was is : Option (List
     lines = c.lines ++ (line ∷ []);
     taken = taken_both shown c.lines (line ∷ []) was is is' s t u d e f c.taken taken;
     cut = λ more.
-        c.cut more ∙ ap (λ ls. c.lines ++ ls) (line_cut now rest more next c.unended (sym ends) ∙ (λ i. sym is_line i ∷ lines_of (sym empty i ++ (next ++ more))))
+        c.cut more ∙ ap (λ ls. c.lines ++ ls) (line-cut now rest more next c.unended (sym ends) ∙ (λ i. sym is_line i ∷ lines_of (sym empty i ++ (next ++ more))))
         ∙ sym (append_assoc c.lines (line ∷ []) (lines_of (cleared ++ (next ++ more))));
     unended = rw empty refl;
   }
@@ -95,8 +95,8 @@ module _ (shown : Bool) (begun piece now rest : List ℕ) (was is : Option (List
         cut = λ more.
             c.cut more
             ∙ ap (λ ls. c.lines ++ ls)
-            (ap lines_of (sym (append_assoc now rest more)) ∙ sym (front_kept (now ++ rest) more whole) ∙ ap (λ l. lines_of (l ++ more)) (sym is_left));
-        unended = subst IsUnended (sym is_left) (unended_front 255 (now ++ rest) whole);
+            (ap lines_of (sym (append_assoc now rest more)) ∙ sym (front-kept (now ++ rest) more whole) ∙ ap (λ l. lines_of (l ++ more)) (sym is_left));
+        unended = subst IsUnended (sym is_left) (unended-front 255 (now ++ rest) whole);
       }
 
 -- The whole input.
@@ -148,11 +148,15 @@ module _ (shown : Bool) (coming was is : Option (List ℕ)) (bytes begun : List 
 pub all_told : (answers : List (Result Outcome LedgerFault)) (t : Seen) → t ≡ all_seen answers none_seen → IsSeen t answers
 all_told answers t e = subst (λ s. IsSeen s answers) (sym e) (all_counted answers)
 
+begun_all : (begun : List ℕ) → IsUnended begun → length begun ≤ 255 → lines_of begun ≡ begun_line begun
+begun_all [] none fits = refl
+begun_all (x ∷ xs) none fits = let some = ne_eqb (length (x ∷ xs)) 0 (λ e. omega arith) in rw some (line-alone (x ∷ xs) none fits some)
+
 pub begun_held : (b : LineBuffer) → IsUnended (held b) → lines_of (held b) ≡ begun_line (held b)
-begun_held b none = begun_all (held b) (omega (arith, length-take b.len b.bytes, b.inside)) none
+begun_held b none = begun_all (held b) none (held-fits b)
 
 -- a line that was begun and goes on with nothing
 pub begun_alone : (b : LineBuffer) → (length (held b) == 0) ≡ false → begun_line (held b) ≡ take 255 (held b ++ []) ∷ []
 begun_alone b some =
-    let fits = take_all 255 (held b) (omega (arith, length-take b.len b.bytes, b.inside)) in
+    let fits = take_all 255 (held b) (held-fits b) in
     rw (some, append-nil, fits) refl

@@ -1,3 +1,2 @@
 mod Counting
-mod Cutting
 mod Piecing

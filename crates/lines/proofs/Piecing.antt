@@ -10,9 +10,9 @@ use Rattle.messages.specs.Telling.{line_message}
 use Rattle.lines.specs.declared.totals.Totals.{Totals}
 use Rattle.lines.specs.Counted.{IsEven, after, counted, none_counted, totals_told}
 use Rattle.lines.specs.Listings.{form_of, is_read, is_rewritten, lines_text, listing, numbered, times, totals_line}
-use Rattle.lines.specs.Pieces.{IsListed}
+use Rattle.lines.specs.Pieces.{IsListed, IsStopped}
 use Rattle.lines.proofs.Counting.{read-counted, rewritten-counted, totals-told}
-use Rattle.lines.proofs.Cutting.{line-cut, line-on}
+use Rattle.capture.proofs.Cutting.{line-cut, line-on}
 
 -- some lines and then others
 after-join : (xs ys : List (List ℕ)) (t : Totals) → after (xs ++ ys) t ≡ after ys (after xs t)
@@ -48,6 +48,30 @@ listed-line begun piece next left line t m u was then is none ends cut counts sa
       counted = others.counted ∙ ap (after others.lines) counts;
       whole = λ rest. line-cut begun piece rest next none ends ∙ (λ i. sym cut i ∷ others.whole rest i);
     }
+
+-- the writer fails at the line that ends there
+pub stopped-line : (begun piece next left line : List ℕ) (t u : Totals) → IsUnended begun → after_end piece ≡ Some next → line ≡ take 255 (begun ++ before_end piece)
+    → left ≡ [] → u ≡ counted line t → IsStopped begun piece left t u
+stopped-line begun piece next left line t u none ends cut empty counts = record {
+  listed = [];
+  line = line;
+  behind = next;
+  none = empty;
+  counted = counts;
+  whole = λ rest. line-cut begun piece rest next none ends ∙ (λ i. sym cut i ∷ lines_of (next ++ rest));
+}
+
+-- or at a later one
+pub stopped-later : (begun piece next left line : List ℕ) (t m u : Totals) → IsUnended begun → after_end piece ≡ Some next → line ≡ take 255 (begun ++ before_end piece)
+    → m ≡ counted line t → IsStopped [] next left m u → IsStopped begun piece left t u
+stopped-later begun piece next left line t m u none ends cut counts later = record {
+  listed = line ∷ later.listed;
+  line = later.line;
+  behind = later.behind;
+  none = later.none;
+  counted = later.counted ∙ ap (after (later.listed ++ (later.line ∷ []))) counts;
+  whole = λ rest. line-cut begun piece rest next none ends ∙ (λ i. sym cut i ∷ later.whole rest i);
+}
 
 -- a piece and then another, and what is printed of them is written out
 pub listed-both : (begun piece between next left : List ℕ) (t m u : Totals) (was then late is : Option (List ℕ))

@@ -1,5 +1,5 @@
 -- What is listed of an input that comes in pieces.
-use Rattle.std.specs.Prelude.{◌≡◌, ℕ, List, ◌++◌, Option}
+use Rattle.std.specs.Prelude.{◌≡◌, ℕ, List, [], ◌∷◌, ◌++◌, Option}
 use Rattle.std.specs.Io.KnownBytes.{Appends}
 use Rattle.capture.specs.Lines.{lines_of}
 use Rattle.lines.specs.declared.totals.Totals.{Totals}
@@ -16,3 +16,14 @@ pub record IsListed (begun piece left : List ℕ) (t u : Totals)
   pub counted : u ≡ after lines t
   pub whole : (rest : List ℕ)
       → lines_of (begun ++ (piece ++ rest)) ≡ lines ++ lines_of (left ++ rest)
+
+-- Where the writer fails at a line, that line is counted as those before it are. Nothing of it is
+-- left, and what stands behind it in the piece is not taken.
+pub record IsStopped (begun piece left : List ℕ) (t u : Totals) : Type 0 where
+  pub listed : List (List ℕ)
+  pub line : List ℕ
+  pub behind : List ℕ
+  pub none : left ≡ []
+  pub counted : u ≡ after (listed ++ (line ∷ [])) t
+  pub whole : (rest : List ℕ)
+      → lines_of (begun ++ (piece ++ rest)) ≡ listed ++ (line ∷ lines_of (behind ++ rest))

@@ -1,5 +1,5 @@
 //! The lines of an input that comes in pieces.
-ghost use Rattle.std.specs.Prelude.{◌≡◌, [], ◌∷◌, ◌++◌, IfSome, OnOk};
+ghost use Rattle.std.specs.Prelude.{◌≡◌, [], ◌∷◌, ◌++◌, IfSome, OnOk, OnErr};
 ghost use Rattle.std.specs.Io.KnownBytes.{Appends};
 ghost use Rattle.capture.specs.Begun.{IsUnended};
 ghost use Rattle.capture.specs.Counts.{more};
@@ -8,7 +8,7 @@ ghost use Rattle.capture.specs.Lines.{lines_of};
 ghost use Rattle.messages.specs.Telling.{line_message};
 ghost use Rattle.lines.specs.Counted.{IsEven, after, counted, none_counted, totals_told};
 ghost use Rattle.lines.specs.Listings.{form_of, is_read, is_rewritten, listing, numbered};
-ghost use Rattle.lines.specs.Pieces.{IsListed};
+ghost use Rattle.lines.specs.Pieces.{IsListed, IsStopped};
 
 use crate::rewriting::comes_back;
 use crate::totals::Totals;
@@ -52,6 +52,8 @@ impl Listing {
         ensures even { IsEven self.old.totals → IsEven self.new.totals }
         ensures says { OnOk result (IsListed (held self.old.line) piece.now (held self.new.line)
             self.old.totals self.new.totals (W.contents output.old) (W.contents output.new)) }
+        ensures stops { OnErr result (IsStopped (held self.old.line) piece.now
+            (held self.new.line) self.old.totals self.new.totals) }
     {
         let mut rest = piece;
         loop {

@@ -1,8 +1,9 @@
-use Rattle.std.proofs.Common.{◌≡◌, ◌++◌, take, None, Some, ap, ◌∙◌, rules}
+use Rattle.std.proofs.Common.{◌≡◌, ◌++◌, take, None, Some, Ok, Err, Result, ap, ◌∙◌, rules}
+use Rattle.std.specs.Prelude.{OnErr}
 use Rattle.capture.specs.Held.{held}
 use Rattle.capture.specs.Splits.{after_end}
-use Rattle.lines.proofs.Cutting.{unended-on}
-use Rattle.lines.proofs.Piecing.{listed-none, listed-line}
+use Rattle.capture.proofs.Cutting.{unended-on}
+use Rattle.lines.proofs.Piecing.{listed-none, listed-line, stopped-line, stopped-later}
 use Rattle.lines.proofs.listing.Listing.take.Goals as goal
 
 pub invariant_of-self : goal.invariant_of-self
@@ -27,4 +28,23 @@ loop-next-preserved g c =
           (listed-line begun c.loop-next.rest.now next left (held c.extend.new.self) c.loop-next.self.totals c.end_line.new.self.totals u (g.W.Write.contents c.loop-next.output) (g.W.Write.contents c.end_line.new.output) is
           c.loop-next.self.unended ends (c.extend.ensures ∙ ap (λ end. take 255 (begun ++ end)) c.split_line.ensures.first)
           c.end_line.ensures.counts c.in_ok-end_line.ensures.says (rw c.end_line.ensures.line at others)),
+      λ left u later.
+          c.loop-next.invariant.2 left u
+          (stopped-later begun c.loop-next.rest.now next left (held c.extend.new.self) c.loop-next.self.totals c.end_line.new.self.totals u
+          c.loop-next.self.unended ends (c.extend.ensures ∙ ap (λ end. take 255 (begun ++ end)) c.split_line.ensures.first)
+          c.end_line.ensures.counts (rw c.end_line.ensures.line at later)),
     )
+
+when-err : {T E : Type 0} {P : Type 0} (r : Result T E) → P → OnErr r P
+when-err (Ok x) p = tt
+when-err (Err e) p = p
+
+pub returns-in_err-end_line-clause-stops : goal.returns-in_err-end_line-clause-stops
+returns-in_err-end_line-clause-stops g c =
+    let begun = held c.loop-next.self.line in
+    let ends : after_end c.loop-next.rest.now ≡ Some c.in-Some.next.now = search rules in
+    when-err c.from_residual.result
+    (c.loop-next.invariant.2 (held c.end_line.new.self.line) c.end_line.new.self.totals
+    (stopped-line begun c.loop-next.rest.now c.in-Some.next.now (held c.end_line.new.self.line) (held c.extend.new.self) c.loop-next.self.totals c.end_line.new.self.totals
+    c.loop-next.self.unended ends (c.extend.ensures ∙ ap (λ end. take 255 (begun ++ end)) c.split_line.ensures.first)
+    c.end_line.ensures.line c.end_line.ensures.counts))

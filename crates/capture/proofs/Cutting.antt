@@ -19,7 +19,7 @@ unended-before (x ∷ xs) =
     (λ e. let off = ne_eqb x 10 e in rw (off, off) (unended-before xs))
     (cases_eq x 10)
 
-unended-front : (n : ℕ) (xs : List ℕ) → IsUnended xs → IsUnended (take n xs)
+pub unended-front : (n : ℕ) (xs : List ℕ) → IsUnended xs → IsUnended (take n xs)
 unended-front zero xs none = refl
 unended-front (suc n) [] none = refl
 unended-front (suc n) (x ∷ xs) none =
@@ -58,7 +58,7 @@ line-cut begun piece rest r none some =
     ∙ (λ i. take 255 (begun ++ before-cut piece rest r some i) ∷ lines_of (through-next piece rest r some i))
 
 -- what is kept of it is as good as all of it
-front-kept : (begun rest : List ℕ) → IsUnended begun → lines_of (take 255 begun ++ rest) ≡ lines_of (begun ++ rest)
+pub front-kept : (begun rest : List ℕ) → IsUnended begun → lines_of (take 255 begun ++ rest) ≡ lines_of (begun ++ rest)
 front-kept [] rest none = refl
 front-kept (x ∷ xs) rest none =
     line-first (take 255 (x ∷ xs)) rest (unended-front 255 (x ∷ xs) none) (omega arith)
@@ -74,11 +74,11 @@ line-on begun piece rest none also =
     ∙ ap (λ p. lines_of (take 255 (begun ++ p) ++ rest)) (sym all)
 
 -- nothing more comes
-line-alone : (begun : List ℕ) → IsUnended begun → length begun ≤ 255 → (length begun == 0) ≡ false → lines_of begun ≡ begun ∷ []
+pub line-alone : (begun : List ℕ) → IsUnended begun → length begun ≤ 255 → (length begun == 0) ≡ false → lines_of begun ≡ begun ∷ []
 line-alone [] none fits some = cc
 line-alone (x ∷ xs) none fits some =
     ap lines_of (sym (append-nil (x ∷ xs))) ∙ line-first (x ∷ xs) [] none (omega arith)
     ∙ ap (λ line. line ∷ []) (ap (take 255) (append-nil (x ∷ xs)) ∙ take_all 255 (x ∷ xs) fits)
 
-pub held-alone : (b : LineBuffer) → IsUnended (held b) → (length (held b) == 0) ≡ false → lines_of (held b) ≡ held b ∷ []
-held-alone b none some = line-alone (held b) none (omega (arith, length-take b.len b.bytes, b.inside)) some
+pub held-fits : (b : LineBuffer) → length (held b) ≤ 255
+held-fits b = omega (arith, length-take b.len b.bytes, b.inside)
