@@ -28,8 +28,8 @@ pub trait Field: Copy {
     fn allows(self, value: &Self::Value) -> bool
         ensures { result ≡ in_range (slot self) (number self value.now) };
 
-    // The value that was read, where the field allows it: one that it always allows is given back
-    // whole, and so need not be of a type whose values may be let go.
+    // The value that was read, where the field allows it. A field that allows every value gives
+    // each back, and so its values need not be of a type that is `Drop`.
     fn allowed(self, value: Self::Value) -> Option<Self::Value>
         ensures { result
             ≡ (if in_range (slot self) (number self value) then Some value else None) };

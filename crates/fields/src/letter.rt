@@ -4,6 +4,9 @@ ghost use Rattle.layout.specs.Slots.{choice, is_one_of};
 ghost use Rattle.fields.specs.declared.letter.UnknownLetter.{UnknownLetter};
 ghost use Rattle.fields.specs.Letters.{ReadAs};
 
+#[cfg(test)]
+mod tests;
+
 use crate::field::Field;
 use crate::put::put_byte;
 use std::alloc::AllocError;
@@ -26,7 +29,8 @@ pub trait Lettered: TryFrom<u8, Error = UnknownLetter> {
         ensures { result ≡ written self.now };
 
     // a byte is turned into the value that is written as it, if there is one
-    ghost reads: { (b : ℕ) (r : Result Self UnknownLetter) → Self.TryFrom.try_from_gives b r → ReadAs letters written b r };
+    ghost reads: { (b : ℕ) (r : Result Self UnknownLetter)
+        → Self.TryFrom.try_from_gives b r → ReadAs letters written b r };
 }
 
 // A field that holds a value of that type.
