@@ -67,13 +67,13 @@ impl Lettered for Side {
 
     ghost written = { side_letter };
 
-    ghost reads = { λ _ _ read. read };
+    ghost member = { side_member };
 
     fn byte(&self) -> u8 {
         (*self).into()
     }
 
-    ghost member = { side_member };
+    ghost reads = { λ _ _ read. read };
 }
 
 impl TryFrom<u8> for TradeSide {
@@ -104,13 +104,13 @@ impl Lettered for TradeSide {
 
     ghost written = { trade_side_letter };
 
-    ghost reads = { λ _ _ read. read };
+    ghost member = { trade_side_member };
 
     fn byte(&self) -> u8 {
         (*self).into()
     }
 
-    ghost member = { trade_side_member };
+    ghost reads = { λ _ _ read. read };
 }
 
 impl TryFrom<u8> for Display {
@@ -143,13 +143,13 @@ impl Lettered for Display {
 
     ghost written = { display_letter };
 
-    ghost reads = { λ _ _ read. read };
+    ghost member = { display_member };
 
     fn byte(&self) -> u8 {
         (*self).into()
     }
 
-    ghost member = { display_member };
+    ghost reads = { λ _ _ read. read };
 }
 
 impl TryFrom<u8> for Customer {
@@ -182,11 +182,11 @@ impl Lettered for Customer {
 
     ghost written = { customer_letter };
 
-    ghost reads = { λ _ _ read. read };
+    ghost member = { customer_member };
 
     fn byte(&self) -> u8 {
         (*self).into()
     }
 
-    ghost member = { customer_member };
+    ghost reads = { λ _ _ read. read };
 }

@@ -51,7 +51,10 @@ impl Lettered for Seal {
 
 const SEAL: Letter<Seal> = Letter(PhantomData);
 
-const PLACE: Place = Place { letter: b'A', offset: 3 };
+const PLACE: Place = Place {
+    letter: b'A',
+    offset: 3,
+};
 
 #[test]
 fn a_value_is_read_checked_and_written(rt: HostRuntime) -> Result<(), Fail> {
