@@ -6,6 +6,7 @@ mod examples;
 mod writes;
 
 use std::io::LineWriter;
+use std::mem::forget;
 use std::process::ExitCode;
 use words::arguments::arguments;
 use words::named::Named;
@@ -21,6 +22,8 @@ fn show(rt: &HostRuntime) -> Result<(), Failure> {
     let output = Named::new("standard output", rt.alloc(), rt.stdout());
     // A line is written at once and whole.
     let mut output = LineWriter::new(rt.alloc(), output)?;
-    writes::show_places(&mut output)?;
-    Ok(writes::show_fields(&mut output)?)
+    let outcome = writes::show(&mut output);
+    // A line that could not be written is not tried again, as it were if the writer was dropped.
+    forget(output);
+    Ok(outcome?)
 }

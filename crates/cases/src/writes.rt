@@ -13,22 +13,29 @@ const EMPTY: [u8; 32] = [b'.'; 32];
 // The symbol ABCD with its four spaces.
 const ABCD: u64 = 0x4142_4344_2020_2020;
 
-/// A line of 27 bytes at places where it just fits, just does not, and at and past the end.
-pub(crate) fn show_places<W: Write>(output: &mut W) -> io::Result<()> {
+/// Prints all of them.
+pub(crate) fn show<W: Write>(output: &mut W) -> io::Result<()> {
+    show_places(output)?;
+    show_fields(output)?;
+    output.flush()
+}
+
+// A line of 27 bytes at places where it just fits, just does not, and at and past the end.
+fn show_places<W: Write>(output: &mut W) -> io::Result<()> {
     let cancel = Message::OrderCancel(Cancel {
         time: 34_200_020,
         order: 361,
         shares: 300,
     });
     for place in [0, 5, 6, 32, 33, usize::MAX] {
-        show(output, &cancel, place)?;
+        show_write(output, &cancel, place)?;
     }
     Ok(())
 }
 
-/// A record that lacks nothing but room, and records that no line gives: the first such field is
-/// named, also where there is no room.
-pub(crate) fn show_fields<W: Write>(output: &mut W) -> io::Result<()> {
+// A record that lacks nothing but room, and records that no line gives: the first such field is
+// named, also where there is no room.
+fn show_fields<W: Write>(output: &mut W) -> io::Result<()> {
     let good = Terms {
         time: 34_200_000,
         order: 361,
@@ -60,13 +67,13 @@ pub(crate) fn show_fields<W: Write>(output: &mut W) -> io::Result<()> {
         Terms { symbol: 0, ..good },
     ];
     for terms in cases {
-        show(output, &quoted(terms), 0)?;
+        show_write(output, &quoted(terms), 0)?;
     }
     let dear = Terms {
         price: 10_000_000_000,
         ..good
     };
-    show(output, &quoted(dear), 33)
+    show_write(output, &quoted(dear), 33)
 }
 
 fn quoted(terms: Terms<Side>) -> Message {
@@ -76,7 +83,7 @@ fn quoted(terms: Terms<Side>) -> Message {
     })
 }
 
-fn show<W: Write>(output: &mut W, message: &Message, place: usize) -> io::Result<()> {
+fn show_write<W: Write>(output: &mut W, message: &Message, place: usize) -> io::Result<()> {
     let mut buf = EMPTY;
     let answer = write(message, &mut buf, place);
     let held = std::str::from_utf8(&buf).unwrap_or("not text");

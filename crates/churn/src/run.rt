@@ -25,6 +25,7 @@ use records::order::Order;
 use row_store::row::RowStore;
 use std::io;
 use std::io::{LineWriter, Write};
+use std::mem::forget;
 use std::slice::from_ref;
 use store::store::Store;
 use store::walk::walk;
@@ -53,7 +54,13 @@ pub fn run<'a>(rt: &HostRuntime, words: &'a [Vec<u8>]) -> Result<(), Failure<'a>
     let output = Named::new("standard output", rt.alloc(), rt.stdout());
     // A line is written whole, as soon as what it tells is done.
     let mut output = LineWriter::new(rt.alloc(), output)?;
-    Ok(run_asked(rt, asked, &mut output)?)
+    let outcome = match run_asked(rt, asked, &mut output) {
+        Ok(()) => output.flush(),
+        failed => failed,
+    };
+    // A line that could not be written is not tried again, as it were if the writer was dropped.
+    forget(output);
+    Ok(outcome?)
 }
 
 /// Runs what is asked for, and prints what was counted; and how long each part took where that is

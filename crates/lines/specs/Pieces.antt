@@ -17,8 +17,8 @@ pub record IsListed (begun piece left : List ℕ) (t u : Totals)
   pub whole : (rest : List ℕ)
       → lines_of (begun ++ (piece ++ rest)) ≡ lines ++ lines_of (left ++ rest)
 
--- Where the writer fails at a line, that line is counted as those before it are. Nothing of it is
--- left, and what stands behind it in the piece is not taken.
+-- Where the writer fails, the lines up to one that ends in the piece are counted, and nothing of
+-- what stands behind that line is begun.
 pub record IsStopped (begun piece left : List ℕ) (t u : Totals) : Type 0 where
   pub listed : List (List ℕ)
   pub line : List ℕ
