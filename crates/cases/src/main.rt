@@ -23,7 +23,7 @@ fn show(rt: &HostRuntime) -> Result<(), Failure> {
     // A line is written at once and whole.
     let mut output = LineWriter::new(rt.alloc(), output)?;
     let outcome = writes::show(&mut output);
-    // A line that could not be written is not tried again, as it were if the writer was dropped.
+    // Dropped, the writer would try a line again that could not be written.
     forget(output);
     Ok(outcome?)
 }

@@ -13,7 +13,7 @@ const EMPTY: [u8; 32] = [b'.'; 32];
 // The symbol ABCD with its four spaces.
 const ABCD: u64 = 0x4142_4344_2020_2020;
 
-/// Prints all of them.
+/// Prints each write, a line for one.
 pub(crate) fn show<W: Write>(output: &mut W) -> io::Result<()> {
     show_places(output)?;
     show_fields(output)?;

@@ -58,7 +58,7 @@ pub fn run<'a>(rt: &HostRuntime, words: &'a [Vec<u8>]) -> Result<(), Failure<'a>
         Ok(()) => output.flush(),
         failed => failed,
     };
-    // A line that could not be written is not tried again, as it were if the writer was dropped.
+    // Dropped, the writer would try a line again that could not be written.
     forget(output);
     Ok(outcome?)
 }

@@ -46,8 +46,8 @@ impl Listing {
     /// Takes the next bytes of the input, in which lines may end and one may begin: prints each
     /// that ends, and counts it.
     ///
-    /// An `Err` is the writer's, of a line that ends in the piece. That line is counted all the same,
-    /// and what stands behind it is not taken: none of it is at hand.
+    /// An `Err` is the writer's, of a line that ends in the piece. That line is counted all the
+    /// same, and what stands behind it is not taken: none of it is at hand.
     pub fn take<W: Write>(&mut self, piece: &[u8], output: &mut W) -> io::Result<()>
         ensures even { IsEven self.old.totals → IsEven self.new.totals }
         ensures says { OnOk result (IsListed (held self.old.line) piece.now (held self.new.line)
