@@ -1,10 +1,8 @@
 -- The lines of an input of which some bytes have come.
-use Rattle.std.proofs.Common.{◌≡◌, ℕ, zero, suc, ◌<◌, ◌≤◌, ◌==◌, false, List, [], ◌∷◌, ◌++◌, length, map, take, Some, None, sym, refl, ap, ◌∙◌, ⊎_elim, arith, append-nil, append_assoc, length-append, length-take, eq-eqb, ne_eqb, take_all}
+use Rattle.std.proofs.Common.{◌≡◌, ℕ, zero, suc, ◌<◌, ◌≤◌, ◌==◌, false, List, [], ◌∷◌, ◌++◌, length, map, take, Some, None, sym, refl, ap, ◌∙◌, ⊎_elim, arith, append-nil, append_assoc, length-append, eq-eqb, ne_eqb, take_all}
 use Rattle.std.proofs.lemmas.Bool.{cases_eq}
 use Rattle.std.specs.Io.BufRead.{drop_through}
-use Rattle.capture.specs.declared.buffer.LineBuffer.{LineBuffer}
-use Rattle.capture.specs.Begun.{IsUnended}
-use Rattle.capture.specs.Held.{held}
+use Rattle.capture.specs.Begun.{IsCut, IsUnended}
 use Rattle.capture.specs.Lines.{passed_on, lines_of}
 use Rattle.capture.specs.Splits.{before_end, after_end}
 use Rattle.capture.proofs.Reading.{take-front, before-whole, through-whole, before-cut, shorter, whole-first, unended-both}
@@ -66,8 +64,8 @@ front-kept (x ∷ xs) rest none =
     ∙ sym (line-first (x ∷ xs) rest none (omega arith))
 
 -- it goes on
-pub line-on : (begun piece rest : List ℕ) → IsUnended begun → IsUnended piece → lines_of (begun ++ (piece ++ rest)) ≡ lines_of (take 255 (begun ++ before_end piece) ++ rest)
-line-on begun piece rest none also =
+pub cut-none : (begun piece : List ℕ) → IsUnended begun → IsUnended piece → IsCut begun piece [] (take 255 (begun ++ before_end piece))
+cut-none begun piece none also rest =
     let all : before_end piece ≡ piece = ap before_end (sym (append-nil piece)) ∙ before-whole piece [] also ∙ append-nil piece in
     ap lines_of (sym (append_assoc begun piece rest))
     ∙ sym (front-kept (begun ++ piece) rest (unended-both begun piece none also))
@@ -80,5 +78,13 @@ line-alone (x ∷ xs) none fits some =
     ap lines_of (sym (append-nil (x ∷ xs))) ∙ line-first (x ∷ xs) [] none (omega arith)
     ∙ ap (λ line. line ∷ []) (ap (take 255) (append-nil (x ∷ xs)) ∙ take_all 255 (x ∷ xs) fits)
 
-pub held-fits : (b : LineBuffer) → length (held b) ≤ 255
-held-fits b = omega (arith, length-take b.len b.bytes, b.inside)
+-- it ends, and then those that end behind it
+pub cut-first : (begun piece next left line : List ℕ) (lines : List (List ℕ)) → IsUnended begun → after_end piece ≡ Some next → line ≡ take 255 (begun ++ before_end piece)
+    → IsCut [] next lines left → IsCut begun piece (line ∷ lines) left
+cut-first begun piece next left line lines none ends is others rest = line-cut begun piece rest next none ends ∙ (λ i. sym is i ∷ others rest i)
+
+-- a piece and then another
+pub cut-both : (begun piece between next left : List ℕ) (xs ys : List (List ℕ)) → IsCut begun piece xs between → IsCut between next ys left → IsCut begun (piece ++ next) (xs ++ ys) left
+cut-both begun piece between next left xs ys first second rest =
+    ap (λ bytes. lines_of (begun ++ bytes)) (append_assoc piece next rest) ∙ first (next ++ rest)
+    ∙ ap (λ lines. xs ++ lines) (second rest) ∙ sym (append_assoc xs ys (lines_of (left ++ rest)))

@@ -117,13 +117,15 @@ ends-there h xs piece h' used shown found e = by-end (after_end piece) refl
           omega (arith, count),
         )
 
+pub held-fits : (b : LineBuffer) → length (held b) ≤ 255
+held-fits b = omega (arith, length-take b.len b.bytes, b.inside)
+
 -- no more bytes are to come, and the line is what came, unless that is nothing
 pub ended : (b : LineBuffer) → if_there (not (eqb (length (held b)) 0)) b ≡ ahead (held b) []
 ended b =
-    let fits : length (held b) ≤ 255 = omega (arith, length-take b.len b.bytes, b.inside) in
     ⊎_elim
     (λ e. let off = eq-eqb (length (held b)) 0 e in rw off (sym (ahead-none (held b) e)))
-    (λ e. let off = ne_eqb (length (held b)) 0 e in rw off (sym (ahead-end (held b) fits (omega (arith, e)))))
+    (λ e. let off = ne_eqb (length (held b)) 0 e in rw off (sym (ahead-end (held b) (held-fits b) (omega (arith, e)))))
     (cases_eq (length (held b)) 0)
 
 -- Of the bytes to come, where they are known.

@@ -8,8 +8,8 @@ use Rattle.capture.specs.Begun.{IsUnended}
 use Rattle.capture.specs.Held.{held}
 use Rattle.capture.specs.Lines.{lines_of}
 use Rattle.capture.specs.Splits.{before_end, after_end}
-use Rattle.capture.proofs.Cutting.{front-kept, held-fits, line-alone, line-cut, unended-front}
-use Rattle.capture.proofs.Reading.{unended-both}
+use Rattle.capture.proofs.Cutting.{front-kept, line-alone, line-cut, unended-front}
+use Rattle.capture.proofs.Reading.{held-fits, unended-both}
 use Rattle.day_rules.specs.declared.fault.LedgerFault.{LedgerFault}
 use Rattle.day_rules.specs.declared.outcome.Outcome.{Outcome}
 use Rattle.day_rules.specs.Days.{Day}

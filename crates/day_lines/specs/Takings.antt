@@ -1,8 +1,7 @@
 -- Lines put one after the other, and those of a piece of an input.
-use Rattle.std.specs.Prelude.{◌≡◌, ℕ, Bool, cond, List, [], ◌∷◌, ◌++◌, length, Option, ◌==◌}
+use Rattle.std.specs.Prelude.{◌≡◌, ℕ, Bool, cond, List, [], ◌∷◌, length, Option, ◌==◌}
 use Rattle.std.specs.Io.KnownBytes.{Appends}
-use Rattle.capture.specs.Begun.{IsUnended}
-use Rattle.capture.specs.Lines.{lines_of}
+use Rattle.capture.specs.Begun.{IsCut, IsUnended}
 use Rattle.day_rules.specs.Days.{Day}
 use Rattle.day_rules.specs.Lines.{day_after, answers_to}
 use Rattle.day_lines.specs.declared.seen.Seen.{Seen}
@@ -19,13 +18,11 @@ pub record Taken (shown : Bool) (lines : List (List ℕ)) (was is : Option (List
 abbrev pub begun_line : List ℕ → List (List ℕ)
 begun_line begun = cond (length begun == 0) [] (begun ∷ [])
 
--- Of a line that was begun and a piece behind it, some lines were put, and what is left begins the
--- next line: whatever comes behind the piece, these are its first lines, and the others are those
--- of what is left and of what comes.
+-- of a line that was begun and a piece behind it, the lines that end were put
 pub record Cut (shown : Bool) (begun piece left : List ℕ) (was is : Option (List ℕ)) (before after : Seen) (d e : Day) : Type 0 where
   pub lines : List (List ℕ)
   pub taken : Taken shown lines was is before after d e
-  pub cut : (more : List ℕ) → lines_of (begun ++ (piece ++ more)) ≡ lines ++ lines_of (left ++ more)
+  pub cut : IsCut begun piece lines left
   pub unended : IsUnended left
 
 abbrev pub PieceTaken : (shown : Bool) (begun piece left : List ℕ) (was is : Option (List ℕ)) (before after : Seen) (d e : Day) → Type 0

@@ -12,7 +12,7 @@ use Rattle.lines.specs.Counted.{IsEven, after, counted, none_counted, totals_tol
 use Rattle.lines.specs.Listings.{form_of, is_read, is_rewritten, lines_text, listing, numbered, times, totals_line}
 use Rattle.lines.specs.Pieces.{IsListed, IsStopped}
 use Rattle.lines.proofs.Counting.{read-counted, rewritten-counted, totals-told}
-use Rattle.capture.proofs.Cutting.{line-cut, line-on}
+use Rattle.capture.proofs.Cutting.{cut-both, cut-first, cut-none}
 
 -- some lines and then others
 after-join : (xs ys : List (List ℕ)) (t : Totals) → after (xs ++ ys) t ≡ after ys (after xs t)
@@ -33,44 +33,44 @@ listed-none begun piece t was none also = record {
   lines = [];
   appends = Appends-nil was;
   counted = refl;
-  whole = λ rest. line-on begun piece rest none also;
+  cut = cut-none begun piece none also;
 }
 
 -- one ends there, and what stands behind it is listed
 pub listed-line : (begun piece next left line : List ℕ) (t m u : Totals) (was then is : Option (List ℕ))
     → IsUnended begun → after_end piece ≡ Some next → line ≡ take 255 (begun ++ before_end piece)
     → m ≡ counted line t → Appends was then (listing t.lines (line ∷ [])) → IsListed [] next left m u then is → IsListed begun piece left t u was is
-listed-line begun piece next left line t m u was then is none ends cut counts says others =
+listed-line begun piece next left line t m u was then is none ends is-line counts says others =
     let behind : Appends then is (listing (counted line t).lines others.lines) =
     subst (λ n. Appends then is (listing n.lines others.lines)) counts others.appends in record {
       lines = line ∷ others.lines;
       appends = subst (Appends was is) (sym (listing-join (line ∷ []) others.lines t)) (Appends-trans was then is _ _ says behind);
       counted = others.counted ∙ ap (after others.lines) counts;
-      whole = λ rest. line-cut begun piece rest next none ends ∙ (λ i. sym cut i ∷ others.whole rest i);
+      cut = cut-first begun piece next left line others.lines none ends is-line others.cut;
     }
 
 -- the writer fails at the line that ends there
 pub stopped-line : (begun piece next left line : List ℕ) (t u : Totals) → IsUnended begun → after_end piece ≡ Some next → line ≡ take 255 (begun ++ before_end piece)
     → left ≡ [] → u ≡ counted line t → IsStopped begun piece left t u
-stopped-line begun piece next left line t u none ends cut empty counts = record {
+stopped-line begun piece next left line t u none ends is-line empty counts = record {
   listed = [];
   line = line;
   behind = next;
   none = empty;
   counted = counts;
-  whole = λ rest. line-cut begun piece rest next none ends ∙ (λ i. sym cut i ∷ lines_of (next ++ rest));
+  cut = cut-first begun piece next next line [] none ends is-line (λ rest. refl);
 }
 
 -- or at a later one
 pub stopped-later : (begun piece next left line : List ℕ) (t m u : Totals) → IsUnended begun → after_end piece ≡ Some next → line ≡ take 255 (begun ++ before_end piece)
     → m ≡ counted line t → IsStopped [] next left m u → IsStopped begun piece left t u
-stopped-later begun piece next left line t m u none ends cut counts later = record {
+stopped-later begun piece next left line t m u none ends is-line counts later = record {
   listed = line ∷ later.listed;
   line = later.line;
   behind = later.behind;
   none = later.none;
   counted = later.counted ∙ ap (after (later.listed ++ (later.line ∷ []))) counts;
-  whole = λ rest. line-cut begun piece rest next none ends ∙ (λ i. sym cut i ∷ later.whole rest i);
+  cut = cut-first begun piece next later.behind line (later.listed ++ (later.line ∷ [])) none ends is-line later.cut;
 }
 
 -- a piece and then another, and what is printed of them is written out
@@ -84,11 +84,7 @@ listed-both begun piece between next left t m u was then late is first second ke
           Appends-kept was late is _
           (subst (Appends was late) (sym (listing-join first.lines second.lines t)) (Appends-trans was then late _ _ first.appends behind)) kept;
       counted = second.counted ∙ ap (after second.lines) first.counted ∙ sym (after-join first.lines second.lines t);
-      whole = λ rest.
-          ap (λ bytes. lines_of (begun ++ bytes)) (append_assoc piece next rest)
-          ∙ first.whole (next ++ rest)
-          ∙ ap (λ lines. first.lines ++ lines) (second.whole rest)
-          ∙ sym (append_assoc first.lines second.lines (lines_of (left ++ rest)));
+      cut = cut-both begun piece between next left first.lines second.lines first.cut second.cut;
     }
 
 -- The whole input.
@@ -108,7 +104,7 @@ module _ (before coming : Option (List ℕ)) (read piece : List ℕ) (used : Con
   module _ (left : List ℕ) (t u : Totals) (was then : Option (List ℕ)) (listed : IsListed [] read left none_counted t was then) (counts : u ≡ after (lines_of left) t) where
     lines-read : lines_of read ≡ listed.lines ++ lines_of left
     lines-read =
-        ap lines_of (sym (append-nil read)) ∙ listed.whole [] ∙ ap (λ line. listed.lines ++ lines_of line) (append-nil left)
+        ap lines_of (sym (append-nil read)) ∙ listed.cut [] ∙ ap (λ line. listed.lines ++ lines_of line) (append-nil left)
 
     totals-read : u ≡ after (lines_of read) none_counted
     totals-read =

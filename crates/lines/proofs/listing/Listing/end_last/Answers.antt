@@ -1,6 +1,7 @@
 use Rattle.std.proofs.Common.{sym, ◌∙◌}
 use Rattle.capture.specs.Held.{held}
-use Rattle.capture.proofs.Cutting.{held-fits, line-alone}
+use Rattle.capture.proofs.Cutting.{line-alone}
+use Rattle.capture.proofs.Reading.{held-fits}
 use Rattle.lines.proofs.listing.Listing.end_last.Goals as goal
 
 pub returns-clause-counts : goal.returns-clause-counts

@@ -1,7 +1,7 @@
-use Rattle.std.proofs.Common.{◌≡◌, ◌++◌, take, None, Some, Ok, Err, Result, ap, ◌∙◌, rules}
+use Rattle.std.proofs.Common.{◌≡◌, ◌++◌, take, None, Some, Ok, Err, Result, rules}
 use Rattle.std.specs.Prelude.{OnErr}
 use Rattle.capture.specs.Held.{held}
-use Rattle.capture.specs.Splits.{after_end}
+use Rattle.capture.specs.Splits.{after_end, before_end}
 use Rattle.capture.proofs.Cutting.{unended-on}
 use Rattle.lines.proofs.Piecing.{listed-none, listed-line, stopped-line, stopped-later}
 use Rattle.lines.proofs.listing.Listing.take.Goals as goal
@@ -20,19 +20,20 @@ returns-in_default-clause-says g c =
 pub loop-next-preserved : goal.loop-next-preserved
 loop-next-preserved g c =
     let begun = held c.loop-next.self.line in
+    let rest = c.loop-next.rest.now in
     let next = c.in-Some.next.now in
-    let ends : after_end c.loop-next.rest.now ≡ Some next = search rules in (
+    let line = held c.extend.new.self in
+    let ends : after_end rest ≡ Some next = search rules in
+    let is-line : line ≡ take 255 (begun ++ before_end rest) = rw c.split_line.ensures.first at c.extend.ensures in (
       λ even. c.end_line.ensures.even (c.loop-next.invariant.0 even),
       λ left u is others.
           c.loop-next.invariant.1 left u is
-          (listed-line begun c.loop-next.rest.now next left (held c.extend.new.self) c.loop-next.self.totals c.end_line.new.self.totals u (g.W.Write.contents c.loop-next.output) (g.W.Write.contents c.end_line.new.output) is
-          c.loop-next.self.unended ends (c.extend.ensures ∙ ap (λ end. take 255 (begun ++ end)) c.split_line.ensures.first)
-          c.end_line.ensures.counts c.in_ok-end_line.ensures.says (rw c.end_line.ensures.line at others)),
+          (listed-line begun rest next left line c.loop-next.self.totals c.end_line.new.self.totals u (g.W.Write.contents c.loop-next.output) (g.W.Write.contents c.end_line.new.output) is
+          c.loop-next.self.unended ends is-line c.end_line.ensures.counts c.in_ok-end_line.ensures.says (rw c.end_line.ensures.line at others)),
       λ left u later.
           c.loop-next.invariant.2 left u
-          (stopped-later begun c.loop-next.rest.now next left (held c.extend.new.self) c.loop-next.self.totals c.end_line.new.self.totals u
-          c.loop-next.self.unended ends (c.extend.ensures ∙ ap (λ end. take 255 (begun ++ end)) c.split_line.ensures.first)
-          c.end_line.ensures.counts (rw c.end_line.ensures.line at later)),
+          (stopped-later begun rest next left line c.loop-next.self.totals c.end_line.new.self.totals u
+          c.loop-next.self.unended ends is-line c.end_line.ensures.counts (rw c.end_line.ensures.line at later)),
     )
 
 when-err : {T E : Type 0} {P : Type 0} (r : Result T E) → P → OnErr r P
@@ -42,9 +43,11 @@ when-err (Err e) p = p
 pub returns-in_err-end_line-clause-stops : goal.returns-in_err-end_line-clause-stops
 returns-in_err-end_line-clause-stops g c =
     let begun = held c.loop-next.self.line in
-    let ends : after_end c.loop-next.rest.now ≡ Some c.in-Some.next.now = search rules in
+    let rest = c.loop-next.rest.now in
+    let line = held c.extend.new.self in
+    let left = held c.end_line.new.self.line in
+    let ends : after_end rest ≡ Some c.in-Some.next.now = search rules in
+    let is-line : line ≡ take 255 (begun ++ before_end rest) = rw c.split_line.ensures.first at c.extend.ensures in
     when-err c.from_residual.result
-    (c.loop-next.invariant.2 (held c.end_line.new.self.line) c.end_line.new.self.totals
-    (stopped-line begun c.loop-next.rest.now c.in-Some.next.now (held c.end_line.new.self.line) (held c.extend.new.self) c.loop-next.self.totals c.end_line.new.self.totals
-    c.loop-next.self.unended ends (c.extend.ensures ∙ ap (λ end. take 255 (begun ++ end)) c.split_line.ensures.first)
-    c.end_line.ensures.line c.end_line.ensures.counts))
+    (c.loop-next.invariant.2 left c.end_line.new.self.totals
+    (stopped-line begun rest c.in-Some.next.now left line c.loop-next.self.totals c.end_line.new.self.totals c.loop-next.self.unended ends is-line c.end_line.ensures.line c.end_line.ensures.counts))
